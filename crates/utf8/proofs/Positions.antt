@@ -1,0 +1,136 @@
+-- A text from a position on, by the character that is read there: what a loop over a text needs of each step.
+-- Assumes nothing.
+use mathlib.Core.Path.{_≡_, refl, sym, ap, _∙_}
+use mathlib.Core.List.{List, [], _∷_, _++_, append-assoc}
+use mathlib.Core.Option.{Option, none, some}
+use Prim.Native.Nat.{ℕ, suc, _+_, _-_, _≤_, _<_}
+use native.Mathlib.Nat.{add-zero}
+use native.Mathlib.Omega.{arith}
+use lib.ListN.{length, take, drop, length-append, length-drop, drop-of-length-le}
+use lib.Seq.{drop-drop, take-append-seam, drop-append-seam}
+use Rattle.utf8.specs.declared.Character.{Character}
+use Rattle.utf8.specs.declared.Character.the-variants.{Char, Malformed, End}
+use Rattle.utf8.specs.declared.CharCount.{CharCount}
+use Rattle.utf8.specs.declared.CharCount.the-variants.{Chars}
+use Rattle.utf8.specs.Characters.{readFrom, characterAt}
+use Rattle.utf8.specs.Text.{before, charsOf, charsFrom, countOf}
+use Rattle.utf8.specs.Encoding.{Scalars, encode, encodeText, byteLength}
+use Rattle.utf8.proofs.Encodings.{reads-only-encodings}
+use Rattle.utf8.proofs.Texts.{width, chars-char, chars-malformed, chars-end, end-nil, texts-of-encodings, texts-only-of-encodings}
+
+module _ (s : List ℕ) (at : ℕ) where
+  pub from-char : (c w : ℕ) → characterAt s at ≡ Char c w → charsFrom s at ≡ before c (charsFrom s (at + w))
+  unfolding characterAt charsFrom
+  from-char c w e = chars-char (drop at s) c w e ∙ ap (λ (x : List ℕ). before c (charsOf x)) (drop-drop w at s)
+
+  pub from-malformed : characterAt s at ≡ Malformed → charsFrom s at ≡ none
+  unfolding characterAt charsFrom
+  from-malformed e = chars-malformed (drop at s) e
+
+  pub from-end : length s ≤ at → charsFrom s at ≡ some []
+  unfolding charsFrom readFrom
+  from-end h = rw (drop-of-length-le s h) (chars-end [] refl)
+
+  -- a character has one to four bytes, within the text
+  pub inside : (c w : ℕ) → characterAt s at ≡ Char c w → (1 ≤ w) × (w ≤ 4) × (at + w ≤ length s)
+  unfolding characterAt
+  inside c w e =
+      let p = width (drop at s) c w e in
+      let l : length (drop at s) ≡ length s - at = length-drop at s in
+      (p .0 .0, p .0 .1, omega arith)
+
+  -- as many as its encoding
+  pub width-of : (c w : ℕ) → characterAt s at ≡ Char c w → length (encode c) ≡ w
+  unfolding characterAt
+  width-of c w e = reads-only-encodings (drop at s) c w e .1
+
+  -- the end is not met within the text
+  pub not-within : characterAt s at ≡ End → length s ≤ at
+  unfolding characterAt
+  not-within e =
+      let l : length (drop at s) ≡ length s - at = length-drop at s in
+      let n : length (drop at s) ≡ 0 = ap length (end-nil (drop at s) e) in
+      omega arith
+
+pub from-start : (s : List ℕ) → charsFrom s 0 ≡ charsOf s
+unfolding charsFrom
+from-start s = refl
+
+-- ---- a text in two parts
+
+append-text : (xs ys : List ℕ) → encodeText (xs ++ ys) ≡ encodeText xs ++ encodeText ys
+append-text [] ys = refl
+append-text (x ∷ xs) ys = ap (λ (l : List ℕ). encode x ++ l) (append-text xs ys) ∙ sym (append-assoc (encode x) (encodeText xs) (encodeText ys))
+
+append-scalars : (xs ys : List ℕ) → Scalars (xs ++ ys) → Scalars xs × Scalars ys
+append-scalars [] ys h = (tt, h)
+append-scalars (x ∷ xs) ys h = let p = append-scalars xs ys (h .1) in ((h .0, p .0), p .1)
+
+pub byte-length-cons : (c : ℕ) (cs : List ℕ) → byteLength (c ∷ cs) ≡ length (encode c) + byteLength cs
+unfolding byteLength
+byte-length-cons c cs = length-append (encode c) (encodeText cs)
+
+pub byte-length-append : (xs ys : List ℕ) → byteLength (xs ++ ys) ≡ byteLength xs + byteLength ys
+unfolding byteLength
+byte-length-append xs ys = ap length (append-text xs ys) ∙ length-append (encodeText xs) (encodeText ys)
+
+-- the characters after a first part stand after its bytes, and the first part's are in those bytes
+module _ (s : List ℕ) (at : ℕ) (xs ys : List ℕ) (e : charsFrom s at ≡ some (xs ++ ys)) where
+  parts : Scalars (xs ++ ys) × (encodeText (xs ++ ys) ≡ drop at s)
+  unfolding charsFrom
+  parts = texts-only-of-encodings (drop at s) (xs ++ ys) e
+
+  bytes : encodeText xs ++ encodeText ys ≡ drop at s
+  bytes = sym (append-text xs ys) ∙ parts .1
+
+  pub from-second : charsFrom s (at + byteLength xs) ≡ some ys
+  unfolding charsFrom byteLength
+  from-second =
+      ap charsOf (sym (drop-drop (length (encodeText xs)) at s) ∙ ap (drop (length (encodeText xs))) (sym bytes) ∙ drop-append-seam (encodeText xs) (encodeText ys))
+      ∙ texts-of-encodings ys (append-scalars xs ys (parts .0) .1)
+
+  pub first-bytes : charsOf (take (byteLength xs) (drop at s)) ≡ some xs
+  unfolding byteLength
+  first-bytes =
+      ap charsOf (ap (take (length (encodeText xs))) (sym bytes) ∙ take-append-seam (encodeText xs) (encodeText ys))
+      ∙ texts-of-encodings xs (append-scalars xs ys (parts .0) .0)
+
+  pub within-text : at ≤ length s → at + byteLength xs + byteLength ys ≤ length s
+  unfolding byteLength
+  within-text h =
+      let l : length (encodeText xs) + length (encodeText ys) ≡ length s - at = sym (length-append (encodeText xs) (encodeText ys)) ∙ ap length bytes ∙ length-drop at s in
+      omega arith
+
+-- nothing is left only at the end
+pub none-left : (s : List ℕ) (at : ℕ) → charsFrom s at ≡ some [] → length s ≤ at
+unfolding charsFrom
+none-left s at e =
+    let n : 0 ≡ length (drop at s) = ap length (texts-only-of-encodings (drop at s) [] e .1) in
+    let l : length (drop at s) ≡ length s - at = length-drop at s in
+    omega arith
+
+-- ---- counting: n characters are passed, and the rest is still to be counted
+abbrev pub countOn : ℕ → Option (List ℕ) → CharCount
+countOn n none = CharCount.Malformed
+countOn n (some cs) = Chars (n + length cs)
+
+count-none : (cs : Option (List ℕ)) → countOn 0 cs ≡ countOf cs
+count-none none = refl
+count-none (some cs) = ap Chars (omega arith)
+
+pub count-start : (s : List ℕ) → countOn 0 (charsFrom s 0) ≡ countOf (charsOf s)
+count-start s = ap (countOn 0) (from-start s) ∙ count-none (charsOf s)
+
+count-more : (n c : ℕ) (cs : Option (List ℕ)) → countOn (n + 1) cs ≡ countOn n (before c cs)
+count-more n c none = refl
+count-more n c (some cs) = ap Chars (omega arith)
+
+module _ (s : List ℕ) (at n : ℕ) (r : CharCount) (same : countOn n (charsFrom s at) ≡ r) where
+  pub count-char : (c w : ℕ) → characterAt s at ≡ Char c w → countOn (n + 1) (charsFrom s (at + w)) ≡ r
+  count-char c w e = count-more n c (charsFrom s (at + w)) ∙ ap (countOn n) (sym (from-char s at c w e)) ∙ same
+
+  pub count-malformed : characterAt s at ≡ Malformed → CharCount.Malformed ≡ r
+  count-malformed e = ap (countOn n) (sym (from-malformed s at e)) ∙ same
+
+  pub count-end : length s ≤ at → Chars n ≡ r
+  count-end h = ap Chars (sym (add-zero n)) ∙ ap (countOn n) (sym (from-end s at h)) ∙ same
