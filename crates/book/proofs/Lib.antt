@@ -1,0 +1,4 @@
+-- The laws that the functions' proofs, here and in the crates above, cite.
+pub mod Sizes
+pub mod Empties
+pub mod Held

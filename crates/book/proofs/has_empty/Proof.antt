@@ -1,0 +1,64 @@
+-- `book::has_empty` meets its contract. The loop's invariant: the slots from the place on have as many empty ones as are still wanted exactly where all slots have as many as were asked for. Assumes nothing.
+use mathlib.Core.Path.{_≡_}
+use mathlib.Core.Logic.{⊎-elim}
+use Prim.Native.Nat.{_-_, _≤_}
+use native.Mathlib.Omega.{arith}
+use lib.Dec.{leb}
+use lib.ListN.{length}
+use Rattle.book.specs.Enter.{emptySlots}
+use Rattle.book.proofs.Empties.{enoughFrom, starts, none-wanted, one-found, none-found, all-seen}
+use Rattle.book.proofs.has_empty.Statement.{statement}
+use Rattle.book.proofs.has_empty.Tie as tie
+
+abbrev Inv-loop : tie.InvT-loop
+Inv-loop keys count left₀ i₀ left i = (left ≤ count) × (enoughFrom keys i left ≡ leb count (emptySlots keys))
+
+abbrev μ-loop : tie.MeasureT-loop
+μ-loop keys count left₀ i₀ left i = length keys - i
+
+loop-holds : tie.Need-loop-holds Inv-loop μ-loop
+loop-holds c = (omega arith, starts _ _)
+
+returns : tie.Need-returns Inv-loop μ-loop
+returns c = none-wanted _ _ _ _ (c .before .before .loop .inv .1) (c .if1 .taken)
+
+mul-if2 : tie.Need-mul-if2 Inv-loop μ-loop
+mul-if2 c = omega arith
+
+shared-slice-read-if2 : tie.Need-shared-slice-read-if2 Inv-loop μ-loop
+shared-slice-read-if2 c = omega arith
+
+sub-left : tie.Need-sub-left Inv-loop μ-loop
+sub-left c = omega arith
+
+add-i : tie.Need-add-i Inv-loop μ-loop
+add-i c = omega arith
+
+loop-less : tie.Need-loop-less Inv-loop μ-loop
+loop-less c = omega arith
+
+loop-again : tie.Need-loop-again Inv-loop μ-loop
+loop-again c =
+    ⊎-elim
+    (λ w. rw (w .1) (omega arith, one-found _ _ _ _ (c .before .before .before .before .loop .inv .1) (omega arith) (w .0 .taken) (c .before .before .if1 .left)))
+    (λ w. rw (w .1) (omega arith, none-found _ _ _ _ (c .before .before .before .before .loop .inv .1) (omega arith) (w .0 .left)))
+    (c .if2 .came)
+
+returns-2 : tie.Need-returns-2 Inv-loop μ-loop
+returns-2 c = all-seen _ _ _ _ (c .before .loop .inv .1) (omega arith)
+
+pub has-empty-spec : {M : Type 1} → statement M
+has-empty-spec =
+    tie.close
+    (tie.spec
+    Inv-loop
+    μ-loop
+    loop-holds
+    returns
+    mul-if2
+    shared-slice-read-if2
+    sub-left
+    add-i
+    loop-less
+    loop-again
+    returns-2)

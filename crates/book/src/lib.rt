@@ -1,0 +1,184 @@
+//! What a book is and what the calls on it return: its head, the sizes that are allowed, the damage that a head shows,
+//! and the decision by which a word enters.
+
+ghost use mathlib.Core.Path.{_≡_};
+ghost use Prim.Native.Nat.{_≤_, _<_};
+ghost use lib.Dec.{leb};
+ghost use lib.ListN.{length};
+ghost use Rattle.book.specs.Returns.{allowed, headDamaged};
+ghost use Rattle.book.specs.Enter.{emptySlots, replaceBy, insertBy};
+
+// The numbers of document 01's table, by their meaning.
+pub enum Outcome {
+    // 0
+    Done,
+    // 1: a book area outside the allowed sizes, or a token area that is not a whole number of tokens
+    BadAreas,
+    // 2: a text over 16,777,215 bytes
+    TooLong,
+    // 3: malformed UTF-8
+    Malformed,
+    // 4: a frequency malformed or over 4,294,967,295
+    BadFrequency,
+    // 5: the total would pass 4,294,967,295
+    TotalTooLarge,
+    // 6: a new word, and every record taken
+    RecordsFull,
+    // 7: a new word, and too few slots
+    SlotsFull,
+    // 8: a damaged book met
+    Damaged,
+    // 9: a work area shorter than the sentence's characters + 1
+    WorkTooShort,
+    // 10: a block has more edges than the edge area
+    EdgesFull,
+    // 11: more tokens than places
+    TokensFull,
+}
+
+// A book's head.
+pub struct Head {
+    // Records used.
+    pub records: u64,
+    // Slots used.
+    pub slots: u64,
+    // The node number that the next new node gets.
+    pub next: u64,
+    // The sum of the frequencies of the words held.
+    pub total: u64,
+}
+
+// What preparing a book answers.
+pub enum Prepared {
+    Ready(Head),
+    Refused(Outcome),
+}
+
+// What a lookup answers.
+pub enum Found {
+    Frequency(u32),
+    Absent,
+    NotLookedUp(Outcome),
+}
+
+// How a word enters: not at all, into a record that it has, or as a new word that takes so many slots and nodes. The
+// last two carry the total that follows.
+pub enum Decision {
+    Refuse(Outcome),
+    Replace(usize, u64),
+    Insert(u64, u64, u64),
+}
+
+// The longest text that is read.
+pub const LONGEST_TEXT: usize = 16_777_215;
+
+// The greatest frequency, and the greatest total.
+pub const GREATEST_TOTAL: u64 = 4_294_967_295;
+
+// The last node number that is given out, plus one.
+pub const LAST_NODE: u64 = 16_777_215;
+
+// Whether the lengths of a book's areas are allowed: the root's two, the slots' three, the records' two.
+pub fn is_allowed(
+    root_children: usize,
+    root_words: usize,
+    keys: usize,
+    children: usize,
+    words: usize,
+    frequencies: usize,
+    logarithms: usize,
+) -> bool
+    ensures { λ r. ⌜ r ≡ allowed «root_children» «root_words» keys children words frequencies logarithms ⌝ }
+{
+    (1 <= root_children)
+        & (root_children <= 65_536)
+        & (root_words == root_children)
+        & trie::is_slot_count(keys)
+        & (children == keys)
+        & (words == keys)
+        & (1 <= frequencies)
+        & (frequencies <= 1_048_576)
+        & (logarithms == frequencies)
+}
+
+// Whether a head is damaged, in a book of so many records and slots.
+pub fn is_head_damaged(head: Head, records: usize, slots: usize) -> bool
+    requires { ⌜ slots ≤ 4194304 ⌝ }
+    ensures { λ r. ⌜ r ≡ headDamaged head records slots ⌝ }
+{
+    if (slots as u64) < head.slots {
+        return true;
+    }
+    ((records as u64) < head.records)
+        | (slots as u64 * 6 < head.slots * 8)
+        | (GREATEST_TOTAL < head.total)
+        | (head.next < 1)
+        | (LAST_NODE < head.next)
+}
+
+// Whether so many slots are empty, or more. It looks no further than it has to.
+fn has_empty(keys: &[u64], count: u64) -> bool
+    ensures { λ r. ⌜ r ≡ leb count (emptySlots (now (keys .entry))) ⌝ }
+{
+    let mut left = count;
+    let mut i = 0;
+    while i < keys.len() {
+        if left == 0 {
+            return true;
+        }
+        if keys[i] == 0 {
+            left -= 1;
+        }
+        i += 1;
+    }
+    left == 0
+}
+
+// How a word that is held enters, by the total, its record's old frequency and that record.
+pub fn decide_held(total: u64, old: u32, n: usize, frequency: u64) -> Decision
+    requires { ⌜ (total ≤ 4294967295) × (frequency ≤ 4294967295) ⌝ }
+    ensures { λ r. ⌜ r ≡ replaceBy total old n frequency ⌝ }
+{
+    let old = old as u64;
+    if total < old {
+        return Decision::Refuse(Outcome::Damaged);
+    }
+    let new = total - old + frequency;
+    if GREATEST_TOTAL < new {
+        return Decision::Refuse(Outcome::TotalTooLarge);
+    }
+    Decision::Replace(n, new)
+}
+
+// How a new word enters that takes so many slots and nodes.
+pub fn decide_new(
+    head: Head,
+    records: usize,
+    keys: &[u64],
+    slots: u64,
+    nodes: u64,
+    frequency: u64,
+) -> Decision
+    requires { ⌜ (length (now keys) ≤ 4194304) × (head .slots ≤ length (now keys)) ⌝ }
+    requires { ⌜ (head .total ≤ 4294967295) × (head .next ≤ 16777215) × (frequency ≤ 4294967295) ⌝ }
+    requires { ⌜ (slots ≤ 16777215) × (nodes ≤ 16777215) ⌝ }
+    ensures { λ r. ⌜ r ≡ insertBy head records (now (keys .entry)) slots nodes frequency ⌝ }
+{
+    let total = head.total + frequency;
+    if GREATEST_TOTAL < total {
+        return Decision::Refuse(Outcome::TotalTooLarge);
+    }
+    if records as u64 <= head.records {
+        return Decision::Refuse(Outcome::RecordsFull);
+    }
+    if keys.len() as u64 * 6 < (head.slots + slots) * 8 {
+        return Decision::Refuse(Outcome::SlotsFull);
+    }
+    if !has_empty(keys, slots) {
+        return Decision::Refuse(Outcome::Damaged);
+    }
+    if LAST_NODE < head.next + nodes {
+        return Decision::Refuse(Outcome::Damaged);
+    }
+    Decision::Insert(slots, nodes, total)
+}

@@ -1,0 +1,84 @@
+-- `prepare::prepare` meets its contract: the areas are as they were, or each is filled by its call. Assumes nothing.
+use borrow.Author.Tests.{not-true, not-false}
+use lib.Ieee.{ofBits, ofInt}
+use Rattle.score.specs.Scores.{floatOf}
+use Rattle.prepare.proofs.Prepared.{refused, ready}
+use borrow.Author.Needs.{needs}
+use Rattle.prepare.proofs.prepare.Statement.{statement}
+use Rattle.prepare.proofs.prepare.Tie as tie
+
+is-allowed-requires : tie.Need-is-allowed-requires
+is-allowed-requires c κs = search needs
+
+returns : tie.Need-returns
+returns c = refused _ _ _ _ _ _ _ _ (c .before .is-allowed .ensures) (not-true _ (c .if1 .taken))
+
+fill-u32-requires : tie.Need-fill-u32-requires
+fill-u32-requires c κs = search needs
+
+fill-no-word-requires : tie.Need-fill-no-word-requires
+fill-no-word-requires c κs = search needs
+
+fill-u64-requires : tie.Need-fill-u64-requires
+fill-u64-requires c κs = search needs
+
+fill-u32-requires-2 : tie.Need-fill-u32-requires-2
+fill-u32-requires-2 c κs = search needs
+
+fill-no-word-requires-2 : tie.Need-fill-no-word-requires-2
+fill-no-word-requires-2 c κs = search needs
+
+fill-u32-requires-3 : tie.Need-fill-u32-requires-3
+fill-u32-requires-3 c κs = search needs
+
+fill-f64-requires : tie.Need-fill-f64-requires
+fill-f64-requires c κs = search needs
+
+same-length : tie.Need-same-length
+same-length c = search needs
+
+same-length-2 : tie.Need-same-length-2
+same-length-2 c = search needs
+
+same-length-3 : tie.Need-same-length-3
+same-length-3 c = search needs
+
+same-length-4 : tie.Need-same-length-4
+same-length-4 c = search needs
+
+same-length-5 : tie.Need-same-length-5
+same-length-5 c = search needs
+
+same-length-6 : tie.Need-same-length-6
+same-length-6 c = search needs
+
+same-length-7 : tie.Need-same-length-7
+same-length-7 c = search needs
+
+returns-2 : tie.Need-returns-2
+unfolding ofBits ofInt floatOf
+returns-2 c =
+    ready _ _ _ _ _ _ _ _ (c .before .before .before .before .before .before .before .before .before .before .before .before .before .before .before .before .before .before .before .before .before .before .before .before .before .before .before .is-allowed .ensures) _ _ _ _ _ _ _ (not-false _ (c .before .before .before .before .before .before .before .before .before .before .before .before .before .before .before .before .before .before .before .before .before .before .before .before .before .before .if1 .left))
+    (c .before .before .before .before .before .before .before .before .before .before .before .before .before .before .before .before .before .before .before .before .before .before .before .before .fill-u32 .ensures) (c .before .before .before .before .before .before .before .before .before .before .before .before .before .before .before .before .before .before .before .before .fill-no-word .ensures) (c .before .before .before .before .before .before .before .before .before .before .before .before .before .before .before .before .before .fill-u64 .ensures) (c .before .before .before .before .before .before .before .before .before .before .before .before .before .fill-u322 .ensures) (c .before .before .before .before .before .before .before .before .before .fill-no-word2 .ensures) (c .before .before .before .before .before .before .fill-u323 .ensures) (c .before .before .fill-f64 .ensures)
+
+pub prepare-spec : {M : Type 1} → statement M
+prepare-spec =
+    tie.close
+    (tie.spec
+    is-allowed-requires
+    returns
+    fill-u32-requires
+    fill-no-word-requires
+    fill-u64-requires
+    fill-u32-requires-2
+    fill-no-word-requires-2
+    fill-u32-requires-3
+    fill-f64-requires
+    same-length
+    same-length-2
+    same-length-3
+    same-length-4
+    same-length-5
+    same-length-6
+    same-length-7
+    returns-2)

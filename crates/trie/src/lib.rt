@@ -1,0 +1,138 @@
+//! The leaves of a character-level trie for the dictionary, built for the segmenter's access pattern: from every character of
+//! the input, enumerate the dictionary words that start there (trie.rs).
+//!
+//! Nodes are prefixes of dictionary words. The root's transitions for the first characters live in a directly indexed table.
+//! Every other transition is one slot of an open-addressing hash table keyed by (parent node, character), and the slot carries
+//! everything a walk needs to know about the child: its number, the record of the word that ends there, and a small Bloom-style
+//! filter of the characters its own children start with. One probe per character, and no probe at all for the common case of a
+//! character that is not a child.
+//!
+//! The tables are lent, as parallel slices of equal length: the root's children and word numbers; the slots' keys, children and
+//! word numbers. They need not have been filled here, so a probe that meets neither its key nor an empty slot ends after one
+//! round, and a stored word number that names no record is told apart.
+ghost use mathlib.Core.Path.{_≡_};
+ghost use Prim.Native.Nat.{_-_, _^_, _<_};
+ghost use lib.ListN.{length, getD};
+ghost use Rattle.trie.specs.Trie.{noWord, wordNumber, keyOf, log2, SlotCount, keyBit, childBit};
+ghost use Rattle.trie.specs.SlotCounts.{slotCount};
+
+// The functions whose counterparts are methods of the Rust's `CharTrie`.
+pub mod char_trie;
+
+// A slot's key is parent × 2^21 + character + 1 in its low 48 bits, and has the first child filter in its high 16 bits.
+const CHARS: u64 = 0x20_0000;
+
+const KEY_BITS: u32 = 48;
+
+// A child is its node's number in the low 24 bits, and has the second child filter in its high 8 bits.
+const ID_BITS: u32 = 24;
+
+// 2^24: a child's node is what is below it.
+pub const NODES: u32 = 0x100_0000;
+
+// Where a node's child pointer is stored.
+pub enum ParentRef {
+    // The node is the root itself, which has no pointer.
+    Root,
+    RootEntry(usize),
+    Slot(usize),
+}
+
+// Where a probe ends: at the key, at an empty slot, or not at all.
+pub enum Probe {
+    Found(usize),
+    Empty(usize),
+    Endless,
+}
+
+// What a stored word number says.
+pub enum WordNumber {
+    // -1: no word ends here.
+    NoWord,
+    // The record of the word that ends here.
+    Record(usize),
+    // Neither: the book is damaged.
+    Bad,
+}
+
+// Where a step leads.
+pub enum Step {
+    At(ParentRef),
+    Nothing,
+    // A probe without an end: the book is damaged.
+    Damaged,
+}
+
+// What a lookup finds.
+pub enum Got {
+    // The word's record.
+    Held(usize),
+    Absent,
+    Damaged,
+}
+
+// Which bits a character sets in a node's two child filters: one of 16 in the slot's key, one of 8 in its child.
+pub struct FilterBits {
+    pub key: u32,
+    pub child: u32,
+}
+
+pub fn key(parent: u32, ch: u32) -> u64
+    requires { ⌜ (parent < 2 ^ 24) × (ch < 2 ^ 21) ⌝ }
+    ensures { λ r. ⌜ r ≡ keyOf parent ch ⌝ }
+{
+    (parent as u64) * CHARS + (ch as u64) + 1
+}
+
+// The Rust gives the two masks. A lookup probes only where both bits are set, which rejects most characters that are not
+// children without touching the hash table.
+pub fn filter_bits(ch: u32) -> FilterBits
+    ensures { λ r. ⌜ (r .key ≡ keyBit ch) × (r .child ≡ childBit ch) ⌝ }
+{
+    let h = arith::wrapping_mul_u32(ch, 0x9E37_79B1);
+    FilterBits {
+        key: KEY_BITS + (h >> 28),
+        child: ID_BITS + (h >> 25) % 8,
+    }
+}
+
+// Whether a table may have n slots: a power of two from 16 to 4,194,304.
+pub fn is_slot_count(n: usize) -> bool
+    ensures { λ r. ⌜ r ≡ slotCount n ⌝ }
+{
+    if n < 16 {
+        return false;
+    }
+    if 4_194_304 < n {
+        return false;
+    }
+    n == 1usize << (63 - usize::leading_zeros(n))
+}
+
+// 64 - log2 of the number of slots: a hash shifted right by it indexes the table.
+pub fn shift_of(slots: usize) -> u32
+    requires { ⌜ SlotCount slots ⌝ }
+    ensures { λ r. ⌜ r ≡ 64 - log2 slots ⌝ }
+{
+    usize::leading_zeros(slots) + 1
+}
+
+// What the word number at i says, where the records from 0 on to the number used are in use. The only place where a signed
+// number is read.
+pub fn word_number(words: &[i32], i: usize, used: usize) -> WordNumber
+    requires { ⌜ i < length (now words) ⌝ }
+    ensures { λ r. ⌜ r ≡ wordNumber used (getD (now (words .entry)) i noWord) ⌝ }
+{
+    let w = words[i];
+    if w == -1 {
+        return WordNumber::NoWord;
+    }
+    if w < 0 {
+        return WordNumber::Bad;
+    }
+    let n = w as usize;
+    if n < used {
+        return WordNumber::Record(n);
+    }
+    WordNumber::Bad
+}

@@ -1,0 +1,4 @@
+-- Proofs of the claims, and the laws that the functions' proofs, here and in the crates above, cite.
+pub mod Places
+pub mod Walks
+pub mod NewSteps

@@ -1,0 +1,184 @@
+-- Places, and steps from them. A root entry is reached only by a character below the root's length, and a slot only by a probe, which ends
+-- within the slots: so every step leads to a place of the tables. From each kind of place a step is what the code works out there: from the
+-- root `firstStep`, from a root entry or a slot one from its child, with the bits of the key and the child first in a lookup.
+-- Assumes nothing.
+use Prim.Native.Nat.{ℕ, _%_, _^_, _≤_, _<_}
+use mathlib.Core.Path.{_≡_, refl, sym, _∙_, subst}
+use mathlib.Core.Bool.{Bool, true, false, cond, false≢true}
+use mathlib.Core.List.{List, [], _∷_}
+use borrow.Author.Tests.{ltb-true, lt-ltb, le-ltb, eq-eqb, ne-eqb}
+use lib.Dec.{ltb, eqb}
+use lib.IntN.{ℤ}
+use lib.ListN.{length, getD}
+use Rattle.trie.specs.declared.ParentRef.{ParentRef}
+use Rattle.trie.specs.declared.ParentRef.the-variants.{Root, RootEntry, Slot}
+use Rattle.trie.specs.declared.Probe.{Probe}
+use Rattle.trie.specs.declared.Probe.the-variants.{Found, Empty, Endless}
+use Rattle.trie.specs.declared.Step.{Step}
+use Rattle.trie.specs.declared.Step.the-variants.{At, Nothing, Damaged}
+use Rattle.trie.specs.declared.WordNumber.{WordNumber}
+use Rattle.trie.specs.declared.WordNumber.the-variants.{NoWord}
+use Rattle.trie.specs.Trie.{CharTrie, noWord, wordNumber, wordAt, SlotCount, keyOf, nodeAt, fromRoot, probeOf, stepByProbe, rootStep, slotStep, openStep, bitsAt, testedStep, stepFrom, walk, trieOf}
+use Rattle.trie.specs.Claims.{allOnes}
+use Rattle.trie.proofs.Probes.{found-has-key}
+use Rattle.trie.proofs.Steps.{steps-from-slot, steps-from-root-entry}
+use Rattle.walk.specs.Walk.{Inside, firstStep}
+use Rattle.walk.specs.Claims.{FirstStepIsOpen, FirstStepIsTested, OpenStepsInside, TestedStepsInside, WalksInside}
+
+-- ---- the root's step
+
+first-by : (t : CharTrie) (ch : ℕ) (below : Bool) → elim below [ true ↦ rootStep t ch | false ↦ slotStep t Root ch ] ≡ cond below (rootStep t ch) (slotStep t Root ch)
+first-by t ch true = refl
+first-by t ch false = refl
+
+pub first-step-is-open : FirstStepIsOpen
+unfolding openStep fromRoot nodeAt firstStep
+first-step-is-open t ch = first-by t ch (ltb ch (length (t .rootChildren)))
+
+pub first-step-is-tested : FirstStepIsTested
+unfolding testedStep bitsAt
+first-step-is-tested t ch = first-step-is-open t ch
+
+-- ---- steps stay inside
+
+-- where a step leads, if anywhere, is a place of the tables
+abbrev LeadsInside : CharTrie → Step → Type 0
+LeadsInside t (At q) = Inside (length (t .rootChildren)) (length (t .keys)) q
+LeadsInside t Nothing = Unit {0}
+LeadsInside t Damaged = Unit {0}
+
+module _ (t : CharTrie) (allowed : SlotCount (length (t .keys))) where
+  by-probe : (key : ℕ) (p : Probe) → probeOf (t .keys) key ≡ p → LeadsInside t (stepByProbe p)
+  unfolding Inside
+  by-probe key (Found i) e = found-has-key (t .keys) key i allowed e .0
+  by-probe key (Empty i) e = tt
+  by-probe key Endless e = tt
+
+  by-entry : (ch : ℕ) (empty : Bool) → ch < length (t .rootChildren) → LeadsInside t (cond empty Nothing (At (RootEntry ch)))
+  unfolding Inside
+  by-entry ch true below = tt
+  by-entry ch false below = below
+
+  by-root : (p : ParentRef) (ch : ℕ) (root : Bool) → fromRoot t p ch ≡ root → LeadsInside t (elim root [ true ↦ rootStep t ch | false ↦ slotStep t p ch ])
+  unfolding fromRoot
+  by-root Root ch true e = by-entry ch (eqb (getD (t .rootChildren) ch 0) 0) (ltb-true _ _ e)
+  by-root (RootEntry i) ch true e = absurd (false≢true e)
+  by-root (Slot i) ch true e = absurd (false≢true e)
+  by-root p ch false e = by-probe (keyOf (nodeAt t p) ch) (probeOf (t .keys) (keyOf (nodeAt t p) ch)) refl
+
+  open-inside : (p : ParentRef) (ch : ℕ) → LeadsInside t (openStep t p ch)
+  unfolding openStep
+  open-inside p ch = by-root p ch (fromRoot t p ch) refl
+
+  by-bits : (p : ParentRef) (ch : ℕ) (bits : Bool) → LeadsInside t (elim bits [ true ↦ openStep t p ch | false ↦ Nothing ])
+  by-bits p ch true = open-inside p ch
+  by-bits p ch false = tt
+
+  tested-inside : (p : ParentRef) (ch : ℕ) → LeadsInside t (testedStep t p ch)
+  unfolding testedStep
+  tested-inside p ch = by-bits p ch (bitsAt t p ch)
+
+  onward : (cs : List ℕ) (rest : (q : ParentRef) → LeadsInside t (At q) → LeadsInside t (walk t q cs)) (step : Step) → LeadsInside t step
+      → LeadsInside t (elim step [ At q ↦ walk t q cs | Nothing ↦ Nothing | Damaged ↦ Damaged ])
+  onward cs rest (At q) there = rest q there
+  onward cs rest Nothing there = tt
+  onward cs rest Damaged there = tt
+
+  walk-inside : (cs : List ℕ) (p : ParentRef) → LeadsInside t (At p) → LeadsInside t (walk t p cs)
+  unfolding walk
+  walk-inside [] p inside = inside
+  walk-inside (c ∷ cs) p inside = onward cs (walk-inside cs) (testedStep t p c) (tested-inside p c)
+
+pub open-steps-inside : OpenStepsInside
+open-steps-inside t p q ch allowed e = subst (LeadsInside t) e (open-inside t allowed p ch)
+
+pub tested-steps-inside : TestedStepsInside
+tested-steps-inside t p q ch allowed e = subst (LeadsInside t) e (tested-inside t allowed p ch)
+
+pub walks-inside : WalksInside
+unfolding Inside
+walks-inside t q cs allowed e = subst (LeadsInside t) e (walk-inside t allowed cs Root tt)
+
+-- the same of a step that the code has taken, which does not read the word numbers
+module _ (rootChildren keys children : List ℕ) (allowed : SlotCount (length keys)) (p q : ParentRef) (ch : ℕ) (r : Step) (at : r ≡ At q) where
+  pub leads-tested : ((rootWords words : List ℤ) → r ≡ testedStep (trieOf rootChildren rootWords keys children words) p ch) → Inside (length rootChildren) (length keys) q
+  leads-tested step = tested-steps-inside (trieOf rootChildren [] keys children []) p q ch allowed (sym (step [] []) ∙ at)
+
+  pub leads-open : ((rootWords words : List ℤ) → r ≡ openStep (trieOf rootChildren rootWords keys children words) p ch) → Inside (length rootChildren) (length keys) q
+  leads-open step = open-steps-inside (trieOf rootChildren [] keys children []) p q ch allowed (sym (step [] []) ∙ at)
+
+pub starts-inside : (roots slots : ℕ) → Inside roots slots Root
+unfolding Inside
+starts-inside roots slots = tt
+
+pub same-inside : (roots slots roots′ slots′ : ℕ) (p : ParentRef) → roots′ ≡ roots → slots′ ≡ slots → Inside roots slots p → Inside roots′ slots′ p
+same-inside roots slots roots′ slots′ p e f inside = rw (e, f) inside
+
+-- ---- what the code reads at a place
+
+module _ (roots slots i : ℕ) (place : ParentRef) (inside : Inside roots slots place) where
+  pub entry-inside : place ≡ RootEntry i → i < roots
+  unfolding Inside
+  entry-inside e = rw e at inside
+
+  pub slot-inside : (n : ℕ) → n ≡ slots → place ≡ Slot i → i < n
+  unfolding Inside
+  slot-inside n same e = rw same (rw e at inside)
+
+-- ---- the root's step as the code takes it
+
+module _ (rootChildren keys : List ℕ) (ch : ℕ) where
+  pub root-empty : ch < length rootChildren → getD rootChildren ch 0 ≡ 0 → Nothing ≡ firstStep rootChildren keys ch
+  unfolding firstStep
+  root-empty below empty = rw (lt-ltb _ _ below, eq-eqb _ _ empty)
+
+  pub root-taken : ch < length rootChildren → (getD rootChildren ch 0 ≡ 0 → ⊥) → At (RootEntry ch) ≡ firstStep rootChildren keys ch
+  unfolding firstStep
+  root-taken below taken = rw (lt-ltb _ _ below, ne-eqb _ _ taken)
+
+  pub root-slot : (r : Step) → length rootChildren ≤ ch → r ≡ stepByProbe (probeOf keys (keyOf 0 ch)) → r ≡ firstStep rootChildren keys ch
+  unfolding firstStep
+  root-slot r beyond e = rw (le-ltb _ _ beyond) e
+
+-- ---- a step and a word number as the code works them out from a place, whatever is in the tables that it does not read
+
+module _ (rootChildren : List ℕ) (rootWords : List ℤ) (keys children : List ℕ) (words : List ℤ) (place : ParentRef) (ch : ℕ) (r : Step) where
+  abbrev t : CharTrie
+  t = trieOf rootChildren rootWords keys children words
+
+  pub tested-at-root : place ≡ Root → r ≡ firstStep rootChildren keys ch → r ≡ testedStep t place ch
+  tested-at-root e step = rw e (step ∙ sym (first-step-is-tested t ch))
+
+  pub open-at-root : place ≡ Root → r ≡ firstStep rootChildren keys ch → r ≡ openStep t place ch
+  open-at-root e step = rw e (step ∙ sym (first-step-is-open t ch))
+
+  module _ (i : ℕ) where
+    pub tested-at-entry : place ≡ RootEntry i → r ≡ stepFrom keys allOnes (getD rootChildren i 0) ch → r ≡ testedStep t place ch
+    tested-at-entry e step = rw e (step ∙ sym (steps-from-root-entry t i ch))
+
+    pub tested-at-slot : place ≡ Slot i → r ≡ stepFrom keys (getD keys i 0) (getD children i 0) ch → r ≡ testedStep t place ch
+    tested-at-slot e step = rw e (step ∙ sym (steps-from-slot t i ch))
+
+    pub open-at-entry : place ≡ RootEntry i → r ≡ stepByProbe (probeOf keys (keyOf (getD rootChildren i 0 % 2 ^ 24) ch)) → r ≡ openStep t place ch
+    unfolding openStep fromRoot nodeAt
+    open-at-entry e step = rw e step
+
+    pub open-at-slot : place ≡ Slot i → r ≡ stepByProbe (probeOf keys (keyOf (getD children i 0 % 2 ^ 24) ch)) → r ≡ openStep t place ch
+    unfolding openStep fromRoot nodeAt
+    open-at-slot e step = rw e step
+
+module _ (rootChildren : List ℕ) (rootWords : List ℤ) (keys children : List ℕ) (words : List ℤ) (used : ℕ) (place : ParentRef) where
+  abbrev t′ : CharTrie
+  t′ = trieOf rootChildren rootWords keys children words
+
+  pub word-at-root : place ≡ Root → NoWord ≡ wordAt used t′ place
+  unfolding wordAt
+  word-at-root e = rw e
+
+  pub word-at-entry : (i : ℕ) (r : WordNumber) → place ≡ RootEntry i → r ≡ wordNumber used (getD rootWords i noWord) → r ≡ wordAt used t′ place
+  unfolding wordAt
+  word-at-entry i r e number = rw e number
+
+  pub word-at-slot : (i : ℕ) (r : WordNumber) → place ≡ Slot i → r ≡ wordNumber used (getD words i noWord) → r ≡ wordAt used t′ place
+  unfolding wordAt
+  word-at-slot i r e number = rw e number

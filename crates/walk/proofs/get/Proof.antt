@@ -1,0 +1,74 @@
+-- `walk::get` meets its contract: where the steps lead, the word number says what is found (`Walks`). Assumes nothing.
+use borrow.Author.Needs.{needs}
+use Rattle.walk.proofs.Walks.{reads-inside, get-nothing, get-damaged, get-no-word, get-record, get-bad}
+use Rattle.walk.proofs.get.Statement.{statement}
+use Rattle.walk.proofs.get.Tie as tie
+
+walk-requires : tie.Need-walk-requires
+walk-requires c κs = search needs
+
+enum-known-place : tie.Need-enum-known-place
+enum-known-place c = search needs
+
+word-at-requires : tie.Need-word-at-requires
+word-at-requires c κs =
+    let walked = c .before .before .before in
+    let entry = walked .before .before .before .before .before in
+    reads-inside _ _ _ (entry .pre .1 .0) _ _ _ (walked .walk .ensures) (c .before .place .given .1) _ _ (entry .pre .0 .rootEntries) (entry .pre .0 .slotWords)
+
+enum-told : tie.Need-enum-told
+enum-told c = search needs
+
+enum-known-n : tie.Need-enum-known-n
+enum-known-n c = search needs
+
+enum-told-2 : tie.Need-enum-told-2
+enum-told-2 c = search needs
+
+enum-told-3 : tie.Need-enum-told-3
+enum-told-3 c = search needs
+
+enum-told-4 : tie.Need-enum-told-4
+enum-told-4 c = search needs
+
+returns : tie.Need-returns
+returns c =
+    let number = c .before .before in
+    let place = number .before .before in
+    get-no-word _ _ _ _ (place .before .before .walk .ensures _ _) _ (place .place .given .1) _ (number .word-at .ensures _ _ _) (c .enum-told .given .1)
+
+returns-2 : tie.Need-returns-2
+returns-2 c =
+    let number = c .before .before .before in
+    let place = number .before .before in
+    get-record _ _ _ _ (place .before .before .walk .ensures _ _) _ (place .place .given .1) _ (number .word-at .ensures _ _ _) _ (c .before .n .given .1)
+
+returns-3 : tie.Need-returns-3
+returns-3 c =
+    let number = c .before .before in
+    let place = number .before .before in
+    get-bad _ _ _ _ (place .before .before .walk .ensures _ _) _ (place .place .given .1) _ (number .word-at .ensures _ _ _) (c .enum-told2 .given .1)
+
+returns-4 : tie.Need-returns-4
+returns-4 c = get-nothing _ _ _ _ (c .before .before .walk .ensures _ _) (c .enum-told3 .given .1)
+
+returns-5 : tie.Need-returns-5
+returns-5 c = get-damaged _ _ _ _ (c .before .before .walk .ensures _ _) (c .enum-told4 .given .1)
+
+pub get-spec : {M : Type 1} → statement M
+get-spec =
+    tie.close
+    (tie.spec
+    walk-requires
+    enum-known-place
+    word-at-requires
+    enum-told
+    enum-known-n
+    enum-told-2
+    enum-told-3
+    enum-told-4
+    returns
+    returns-2
+    returns-3
+    returns-4
+    returns-5)

@@ -1,0 +1,254 @@
+//! Walks through the trie along a word: the lookup of a word's record, and what a new word would take (trie.rs).
+//!
+//! A walk keeps the place that it has reached, the root, a root entry or a slot, and reads one character after another. A
+//! lookup tests the bits at each step. An insertion tests none, and is looked at here before anything is written: whether its
+//! steps are all there, or how many slots and nodes the missing ones take. The Rust finds out while it inserts, and grows.
+ghost use mathlib.Core.Path.{_≡_};
+ghost use mathlib.Core.List.{List};
+ghost use mathlib.Core.Option.{IsSome, some};
+ghost use lib.IntN.{ℤ};
+ghost use lib.ListN.{length};
+ghost use Prim.Native.Nat.{ℕ, _-_, _^_, _<_};
+ghost use Rattle.trie.specs.Trie.{log2, SlotCount, openStep, testedStep, wordAt, trieOf};
+ghost use Rattle.trie.specs.declared.ParentRef.the-variants.{Root};
+ghost use Rattle.utf8.specs.declared.Character.the-variants.{Char};
+ghost use Rattle.utf8.specs.Characters.{characterAt};
+ghost use Rattle.utf8.specs.Text.{charsOf, charsFrom};
+ghost use Rattle.walk.specs.Walk.{EquallyLong, Inside, BeginsWith, firstStep, walkFrom, gotOf, newSteps, roomOf};
+use trie::Got;
+use trie::ParentRef;
+use trie::Step;
+use trie::WordNumber;
+use utf8::CharCount;
+use utf8::Character;
+
+// The filter of a root entry, which has no key.
+const ALL_ONES: u64 = 0xFFFF_FFFF_FFFF_FFFF;
+
+// What a new word finds.
+pub enum Room {
+    // A probe without an end: the book is damaged.
+    Damaged,
+    // Every step is there; what the last one's word number says.
+    Whole(WordNumber),
+    // The slots and the nodes that the missing steps take.
+    Partly(usize, usize),
+}
+
+// A character's scalar value, and how many bytes it takes.
+struct NextChar {
+    value: u32,
+    width: usize,
+}
+
+// The root's step: by the root table, or among the slots where the table is too short.
+pub fn root_step(root_children: &[u32], keys: &[u64], shift: u32, ch: u32) -> Step
+    requires { ⌜ SlotCount (length (now keys)) ⌝ }
+    requires { ⌜ shift ≡ 64 - log2 (length (now keys)) ⌝ }
+    requires { ⌜ ch < 2 ^ 21 ⌝ }
+    ensures { λ r. ⌜ r ≡ firstStep (now («root_children» .entry)) (now (keys .entry)) ch ⌝ }
+{
+    let i = ch as usize;
+    if i < root_children.len() {
+        if root_children[i] == 0 {
+            return Step::Nothing;
+        }
+        return Step::At(ParentRef::RootEntry(i));
+    }
+    trie::char_trie::slot_step(keys, shift, 0, ch)
+}
+
+// A lookup's step: it tests the bits.
+fn tested_step(
+    root_children: &[u32],
+    keys: &[u64],
+    children: &[u32],
+    shift: u32,
+    place: ParentRef,
+    ch: u32,
+) -> Step
+    requires { ⌜ (length (now children) ≡ length (now keys)) × SlotCount (length (now keys)) ⌝ }
+    requires { ⌜ shift ≡ 64 - log2 (length (now keys)) ⌝ }
+    requires { ⌜ Inside (length (now «root_children»)) (length (now keys)) place × (ch < 2 ^ 21) ⌝ }
+    ensures { λ r. ⌜ ((rootWords words : List ℤ) → r ≡ testedStep (trieOf (now («root_children» .entry)) rootWords (now (keys .entry)) (now (children .entry)) words) place ch) ⌝ }
+{
+    match place {
+        ParentRef::Root => root_step(root_children, keys, shift, ch),
+        ParentRef::RootEntry(i) => trie::char_trie::step(
+            keys,
+            shift,
+            ALL_ONES,
+            root_children[i],
+            ch,
+        ),
+        ParentRef::Slot(i) => trie::char_trie::step(keys, shift, keys[i], children[i], ch),
+    }
+}
+
+// An insertion's step: it tests no bits.
+fn open_step(
+    root_children: &[u32],
+    keys: &[u64],
+    children: &[u32],
+    shift: u32,
+    place: ParentRef,
+    ch: u32,
+) -> Step
+    requires { ⌜ (length (now children) ≡ length (now keys)) × SlotCount (length (now keys)) ⌝ }
+    requires { ⌜ shift ≡ 64 - log2 (length (now keys)) ⌝ }
+    requires { ⌜ Inside (length (now «root_children»)) (length (now keys)) place × (ch < 2 ^ 21) ⌝ }
+    ensures { λ r. ⌜ ((rootWords words : List ℤ) → r ≡ openStep (trieOf (now («root_children» .entry)) rootWords (now (keys .entry)) (now (children .entry)) words) place ch) ⌝ }
+{
+    match place {
+        ParentRef::Root => root_step(root_children, keys, shift, ch),
+        ParentRef::RootEntry(i) => trie::char_trie::slot_step(
+            keys,
+            shift,
+            root_children[i] % trie::NODES,
+            ch,
+        ),
+        ParentRef::Slot(i) => trie::char_trie::slot_step(
+            keys,
+            shift,
+            children[i] % trie::NODES,
+            ch,
+        ),
+    }
+}
+
+// What the word number at a place says.
+fn word_at(root_words: &[i32], words: &[i32], used: usize, place: ParentRef) -> WordNumber
+    requires { ⌜ Inside (length (now «root_words»)) (length (now words)) place ⌝ }
+    ensures { λ r. ⌜ ((rootChildren keys children : List ℕ) → r ≡ wordAt used (trieOf rootChildren (now («root_words» .entry)) keys children (now (words .entry))) place) ⌝ }
+{
+    match place {
+        ParentRef::Root => WordNumber::NoWord,
+        ParentRef::RootEntry(i) => trie::word_number(root_words, i, used),
+        ParentRef::Slot(i) => trie::word_number(words, i, used),
+    }
+}
+
+// The character at a position of a text that is known to be well formed.
+fn next_char(s: &[u8], at: usize) -> NextChar
+    requires { ⌜ (at < length (now s)) × IsSome (charsFrom (now s) at) ⌝ }
+    ensures { λ r. ⌜ characterAt (now (s .entry)) at ≡ Char (r .value) (r .width) ⌝ }
+{
+    match utf8::read_char(s, at) {
+        Character::Char(value, width) => NextChar { value, width },
+        Character::Malformed => NextChar { value: 0, width: 1 },
+        Character::End => NextChar { value: 0, width: 1 },
+    }
+}
+
+// Where a lookup's steps along the word s lead.
+fn walk(root_children: &[u32], keys: &[u64], children: &[u32], shift: u32, s: &[u8]) -> Step
+    requires { ⌜ (length (now children) ≡ length (now keys)) × SlotCount (length (now keys)) ⌝ }
+    requires { ⌜ shift ≡ 64 - log2 (length (now keys)) ⌝ }
+    requires { ⌜ IsSome (charsOf (now s)) ⌝ }
+    ensures { λ r. ⌜ ((rootWords words : List ℤ) → r ≡ walkFrom (trieOf (now («root_children» .entry)) rootWords (now (keys .entry)) (now (children .entry)) words) Root (charsOf (now (s .entry)))) ⌝ }
+{
+    let mut at: usize = 0;
+    let mut place = ParentRef::Root;
+    while at < s.len() {
+        let next = next_char(s, at);
+        match tested_step(root_children, keys, children, shift, place, next.value) {
+            Step::At(child) => {
+                place = child;
+                at += next.width;
+            }
+            Step::Nothing => {
+                return Step::Nothing;
+            }
+            Step::Damaged => {
+                return Step::Damaged;
+            }
+        }
+    }
+    Step::At(place)
+}
+
+// The record of the word s, if it is in the dictionary. Only the last place's word number is read.
+pub fn get(
+    root_children: &[u32],
+    root_words: &[i32],
+    keys: &[u64],
+    children: &[u32],
+    words: &[i32],
+    shift: u32,
+    used: usize,
+    s: &[u8],
+) -> Got
+    requires { ⌜ EquallyLong (now «root_children») (now «root_words») (now keys) (now children) (now words) ⌝ }
+    requires { ⌜ SlotCount (length (now keys)) ⌝ }
+    requires { ⌜ shift ≡ 64 - log2 (length (now keys)) ⌝ }
+    requires { ⌜ IsSome (charsOf (now s)) ⌝ }
+    ensures { λ r. ⌜ r ≡ gotOf used (trieOf (now («root_children» .entry)) (now («root_words» .entry)) (now (keys .entry)) (now (children .entry)) (now (words .entry))) (charsOf (now (s .entry))) ⌝ }
+{
+    match walk(root_children, keys, children, shift, s) {
+        Step::At(place) => match word_at(root_words, words, used, place) {
+            WordNumber::NoWord => Got::Absent,
+            WordNumber::Record(n) => Got::Held(n),
+            WordNumber::Bad => Got::Damaged,
+        },
+        Step::Nothing => Got::Absent,
+        Step::Damaged => Got::Damaged,
+    }
+}
+
+// What new steps take for all characters of s, of which ch is the first, from a place that is there: a node each, and a slot
+// each but for a first character that the root table serves.
+fn new_steps(root_children: &[u32], place: ParentRef, ch: u32, s: &[u8]) -> Room
+    requires { ⌜ BeginsWith ch (charsOf (now s)) ⌝ }
+    ensures { λ r. ⌜ ((rootWords words : List ℤ) (keys children cs : List ℕ) → charsOf (now (s .entry)) ≡ some cs → r ≡ newSteps (trieOf (now («root_children» .entry)) rootWords keys children words) place cs) ⌝ }
+{
+    let CharCount::Chars(nodes) = utf8::char_count(s) else {
+        return Room::Damaged;
+    };
+    match place {
+        ParentRef::Root => {
+            if (ch as usize) < root_children.len() {
+                return Room::Partly(nodes - 1, nodes);
+            }
+            Room::Partly(nodes, nodes)
+        }
+        ParentRef::RootEntry(_) => Room::Partly(nodes, nodes),
+        ParentRef::Slot(_) => Room::Partly(nodes, nodes),
+    }
+}
+
+// What the word s finds when it is new to the lookup: the insertion's walk, which tests no bits and writes nothing.
+pub fn room_for(
+    root_children: &[u32],
+    root_words: &[i32],
+    keys: &[u64],
+    children: &[u32],
+    words: &[i32],
+    shift: u32,
+    used: usize,
+    s: &[u8],
+) -> Room
+    requires { ⌜ EquallyLong (now «root_children») (now «root_words») (now keys) (now children) (now words) ⌝ }
+    requires { ⌜ SlotCount (length (now keys)) ⌝ }
+    requires { ⌜ shift ≡ 64 - log2 (length (now keys)) ⌝ }
+    requires { ⌜ IsSome (charsOf (now s)) ⌝ }
+    ensures { λ r. ⌜ r ≡ roomOf used (trieOf (now («root_children» .entry)) (now («root_words» .entry)) (now (keys .entry)) (now (children .entry)) (now (words .entry))) (charsOf (now (s .entry))) ⌝ }
+{
+    let mut at: usize = 0;
+    let mut place = ParentRef::Root;
+    while at < s.len() {
+        let next = next_char(s, at);
+        match open_step(root_children, keys, children, shift, place, next.value) {
+            Step::At(child) => {
+                place = child;
+                at += next.width;
+            }
+            Step::Nothing => {
+                return new_steps(root_children, place, next.value, &s[at..]);
+            }
+            Step::Damaged => {
+                return Room::Damaged;
+            }
+        }
+    }
+    Room::Whole(word_at(root_words, words, used, place))
+}
