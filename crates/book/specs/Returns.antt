@@ -37,6 +37,9 @@ numberOf WorkTooShort = 9
 numberOf EdgesFull = 10
 numberOf TokensFull = 11
 
+abbrev pub isDone : Outcome → Bool
+isDone o = eqb (numberOf o) 0
+
 -- "A book is a head .., a root table .., slots .., and .. records", "a record a frequency and its logarithm as a double"
 pub record Book : Type 0 where
   pub head : Head

@@ -5,7 +5,7 @@ ghost use mathlib.Core.Path.{_≡_};
 ghost use Prim.Native.Nat.{_≤_, _<_};
 ghost use lib.Dec.{leb};
 ghost use lib.ListN.{length};
-ghost use Rattle.book.specs.Returns.{allowed, headDamaged};
+ghost use Rattle.book.specs.Returns.{numberOf, allowed, headDamaged};
 ghost use Rattle.book.specs.Enter.{emptySlots, replaceBy, insertBy};
 
 // The numbers of document 01's table, by their meaning.
@@ -67,6 +67,26 @@ pub enum Decision {
     Refuse(Outcome),
     Replace(usize, u64),
     Insert(u64, u64, u64),
+}
+
+// The number of an outcome, as document 01's table has it.
+pub fn number_of(outcome: Outcome) -> u32
+    ensures { λ r. ⌜ r ≡ numberOf outcome ⌝ }
+{
+    match outcome {
+        Outcome::Done => 0,
+        Outcome::BadAreas => 1,
+        Outcome::TooLong => 2,
+        Outcome::Malformed => 3,
+        Outcome::BadFrequency => 4,
+        Outcome::TotalTooLarge => 5,
+        Outcome::RecordsFull => 6,
+        Outcome::SlotsFull => 7,
+        Outcome::Damaged => 8,
+        Outcome::WorkTooShort => 9,
+        Outcome::EdgesFull => 10,
+        Outcome::TokensFull => 11,
+    }
 }
 
 // The longest text that is read.

@@ -1,3 +1,4 @@
 -- The laws that the functions' proofs cite.
-pub mod Areas
 pub mod Lookups
+pub mod Lines
+pub mod Loads

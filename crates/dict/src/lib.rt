@@ -1,11 +1,22 @@
-//! Books: looking up a word.
+//! Books: looking up a word, adding one, and loading a dictionary (lib.rs).
+//!
+//! The Rust keeps its tables in `Jieba`, and grows them. Here a book is seven lent slices and a head by value, which goes in and
+//! comes back with the answer. Every call tests the sizes of what it is lent, and nothing is required of the caller.
 ghost use mathlib.Core.Path.{_≡_};
-ghost use Rattle.trie.specs.Trie.{trieOf};
+ghost use mathlib.Core.Bool.{true};
+ghost use Prim.Native.Nat.{_-_, _≤_};
+ghost use lib.ListN.{length};
+ghost use Rattle.trie.specs.Trie.{trieOf, log2};
 ghost use Rattle.book.specs.Areas.{bookOf};
-ghost use Rattle.book.specs.Returns.{lookupOf};
+ghost use Rattle.book.specs.Returns.{longestText, allowed, lookupOf};
+ghost use Rattle.book.specs.Enter.{addOf, loadOf};
+ghost use Rattle.entry.specs.Texts.{enterLine, entered};
+ghost use Rattle.dict.specs.Answers.{added, loaded, linesLoaded};
 use book::Found;
 use book::Head;
 use book::Outcome;
+use entry::Entered;
+use lines::Line;
 use trie::Got;
 use utf8::CharCount;
 
@@ -61,5 +72,257 @@ pub fn lookup(
         Got::Held(n) => Found::Frequency(frequencies[n]),
         Got::Absent => Found::Absent,
         Got::Damaged => Found::NotLookedUp(Outcome::Damaged),
+    }
+}
+
+// What an addition answers.
+pub struct Added {
+    pub outcome: Outcome,
+    pub frequency: u64,
+    pub head: Head,
+}
+
+// What a load answers.
+pub struct Loaded {
+    pub outcome: Outcome,
+    pub line: usize,
+    pub head: Head,
+}
+
+// A line of a dictionary enters, or is refused and leaves everything as it was. A blank one is passed over.
+fn load_line(
+    head: Head,
+    root_children: &mut [u32],
+    root_words: &mut [i32],
+    keys: &mut [u64],
+    children: &mut [u32],
+    words: &mut [i32],
+    frequencies: &mut [u32],
+    logarithms: &mut [f64],
+    shift: u32,
+    line: &[u8],
+) -> Entered
+    requires { ⌜ allowed (length (now «root_children»)) (length (now «root_words»)) (length (now keys)) (length (now children)) (length (now words)) (length (now frequencies)) (length (now logarithms)) ≡ true ⌝ }
+    requires { ⌜ (shift ≡ 64 - log2 (length (now keys))) × (length (now line) ≤ longestText) ⌝ }
+    ensures { λ r. ⌜ entered r (trieOf (now («root_children» .exit)) (now («root_words» .exit)) (now (keys .exit)) (now (children .exit)) (now (words .exit))) (now (frequencies .exit)) (now (logarithms .exit)) ≡ enterLine (bookOf head (trieOf (now («root_children» .entry)) (now («root_words» .entry)) (now (keys .entry)) (now (children .entry)) (now (words .entry))) (now (frequencies .entry)) (now (logarithms .entry))) (now (line .entry)) ⌝ }
+{
+    match lines::parse_line(line) {
+        Line::Malformed => Entered {
+            outcome: Outcome::Malformed,
+            head,
+        },
+        Line::Blank => Entered {
+            outcome: Outcome::Done,
+            head,
+        },
+        Line::BadFrequency => Entered {
+            outcome: Outcome::BadFrequency,
+            head,
+        },
+        Line::Entry(start, end, frequency) => entry::load_entry(
+            head,
+            root_children,
+            root_words,
+            keys,
+            children,
+            words,
+            frequencies,
+            logarithms,
+            shift,
+            &line[start..end],
+            frequency,
+        ),
+    }
+}
+
+// The lines of a dictionary enter one after the other, up to the first that is refused.
+fn load_lines(
+    head: Head,
+    root_children: &mut [u32],
+    root_words: &mut [i32],
+    keys: &mut [u64],
+    children: &mut [u32],
+    words: &mut [i32],
+    frequencies: &mut [u32],
+    logarithms: &mut [f64],
+    shift: u32,
+    text: &[u8],
+) -> Loaded
+    requires { ⌜ allowed (length (now «root_children»)) (length (now «root_words»)) (length (now keys)) (length (now children)) (length (now words)) (length (now frequencies)) (length (now logarithms)) ≡ true ⌝ }
+    requires { ⌜ (shift ≡ 64 - log2 (length (now keys))) × (length (now text) ≤ longestText) ⌝ }
+    ensures { λ r. ⌜ loaded r (trieOf (now («root_children» .exit)) (now («root_words» .exit)) (now (keys .exit)) (now (children .exit)) (now (words .exit))) (now (frequencies .exit)) (now (logarithms .exit)) ≡ linesLoaded (bookOf head (trieOf (now («root_children» .entry)) (now («root_words» .entry)) (now (keys .entry)) (now (children .entry)) (now (words .entry))) (now (frequencies .entry)) (now (logarithms .entry))) 0 (now (text .entry)) 0 ⌝ }
+{
+    let mut head = head;
+    let mut at: usize = 0;
+    let mut line: usize = 0;
+    while at < text.len() {
+        let end = lines::line_end(text, at);
+        line += 1;
+        let entered = load_line(
+            head,
+            root_children,
+            root_words,
+            keys,
+            children,
+            words,
+            frequencies,
+            logarithms,
+            shift,
+            &text[at..end],
+        );
+        let outcome = entered.outcome;
+        head = entered.head;
+        if book::number_of(outcome) != 0 {
+            return Loaded {
+                outcome,
+                line,
+                head,
+            };
+        }
+        at = end + 1;
+    }
+    Loaded {
+        outcome: Outcome::Done,
+        line,
+        head,
+    }
+}
+
+// Loads a dictionary by adding its entries to the book: a word, its frequency and anything more on each line.
+pub fn load_dict(
+    head: Head,
+    root_children: &mut [u32],
+    root_words: &mut [i32],
+    keys: &mut [u64],
+    children: &mut [u32],
+    words: &mut [i32],
+    frequencies: &mut [u32],
+    logarithms: &mut [f64],
+    text: &[u8],
+) -> Loaded
+    ensures { λ r. ⌜ loaded r (trieOf (now («root_children» .exit)) (now («root_words» .exit)) (now (keys .exit)) (now (children .exit)) (now (words .exit))) (now (frequencies .exit)) (now (logarithms .exit)) ≡ loadOf (bookOf head (trieOf (now («root_children» .entry)) (now («root_words» .entry)) (now (keys .entry)) (now (children .entry)) (now (words .entry))) (now (frequencies .entry)) (now (logarithms .entry))) (now (text .entry)) ⌝ }
+{
+    if !book::is_allowed(
+        root_children.len(),
+        root_words.len(),
+        keys.len(),
+        children.len(),
+        words.len(),
+        frequencies.len(),
+        logarithms.len(),
+    ) {
+        return Loaded {
+            outcome: Outcome::BadAreas,
+            line: 0,
+            head,
+        };
+    }
+    if book::LONGEST_TEXT < text.len() {
+        return Loaded {
+            outcome: Outcome::TooLong,
+            line: 0,
+            head,
+        };
+    }
+    let shift = trie::shift_of(keys.len());
+    load_lines(
+        head,
+        root_children,
+        root_words,
+        keys,
+        children,
+        words,
+        frequencies,
+        logarithms,
+        shift,
+        text,
+    )
+}
+
+// Adds a word with its frequency, or gives a word that is held the new frequency.
+pub fn add_word(
+    head: Head,
+    root_children: &mut [u32],
+    root_words: &mut [i32],
+    keys: &mut [u64],
+    children: &mut [u32],
+    words: &mut [i32],
+    frequencies: &mut [u32],
+    logarithms: &mut [f64],
+    word: &[u8],
+    frequency: u64,
+) -> Added
+    ensures { λ r. ⌜ added r (trieOf (now («root_children» .exit)) (now («root_words» .exit)) (now (keys .exit)) (now (children .exit)) (now (words .exit))) (now (frequencies .exit)) (now (logarithms .exit)) ≡ addOf (bookOf head (trieOf (now («root_children» .entry)) (now («root_words» .entry)) (now (keys .entry)) (now (children .entry)) (now (words .entry))) (now (frequencies .entry)) (now (logarithms .entry))) (now (word .entry)) frequency ⌝ }
+{
+    if !book::is_allowed(
+        root_children.len(),
+        root_words.len(),
+        keys.len(),
+        children.len(),
+        words.len(),
+        frequencies.len(),
+        logarithms.len(),
+    ) {
+        return Added {
+            outcome: Outcome::BadAreas,
+            frequency: 0,
+            head,
+        };
+    }
+    if word.len() > book::LONGEST_TEXT {
+        return Added {
+            outcome: Outcome::TooLong,
+            frequency: 0,
+            head,
+        };
+    }
+    let CharCount::Chars(count) = utf8::char_count(word) else {
+        return Added {
+            outcome: Outcome::Malformed,
+            frequency: 0,
+            head,
+        };
+    };
+    if count == 0 {
+        return Added {
+            outcome: Outcome::Done,
+            frequency: 0,
+            head,
+        };
+    }
+    if book::GREATEST_TOTAL < frequency {
+        return Added {
+            outcome: Outcome::BadFrequency,
+            frequency: 0,
+            head,
+        };
+    }
+    let shift = trie::shift_of(keys.len());
+    let entered = entry::load_entry(
+        head,
+        root_children,
+        root_words,
+        keys,
+        children,
+        words,
+        frequencies,
+        logarithms,
+        shift,
+        word,
+        frequency as u32,
+    );
+    let outcome = entered.outcome;
+    let next = entered.head;
+    if book::number_of(outcome) != 0 {
+        return Added {
+            outcome,
+            frequency: 0,
+            head: next,
+        };
+    }
+    Added {
+        outcome,
+        frequency,
+        head: next,
     }
 }

@@ -3,13 +3,18 @@
 use Prim.Native.Nat.{ℕ}
 use mathlib.Core.List.{List}
 use mathlib.Core.Option.{Option, none, some}
+use lib.Ieee.{Float}
+use Rattle.lines.specs.Lines.{Meaning, malformed, blank, badFrequency, entry, meaningOf}
 use Rattle.trie.specs.declared.ParentRef.the-variants.{Root}
-use Rattle.trie.specs.Trie.{reach}
+use Rattle.trie.specs.Trie.{CharTrie, reach}
 use Rattle.book.specs.declared.Decision.{Decision}
 use Rattle.book.specs.declared.Decision.the-variants.{Refuse}
-use Rattle.book.specs.declared.Outcome.the-variants.{Malformed}
+use Rattle.book.specs.declared.Outcome.{Outcome}
+use Rattle.book.specs.declared.Outcome.the-variants.{Done, Malformed, BadFrequency}
+use Rattle.book.specs.Areas.{bookOf}
 use Rattle.book.specs.Returns.{Book}
-use Rattle.book.specs.Enter.{decideAbsent, decide}
+use Rattle.book.specs.Enter.{decideAbsent, decide, enter, written, outcomeOf}
+use Rattle.entry.specs.declared.Entered.{Entered}
 
 -- how a word enters that the lookup does not find; a text that is malformed does not
 unfoldable pub absentText : Book → Option (List ℕ) → ℕ → Decision
@@ -20,3 +25,33 @@ absentText b (some word) frequency = decideAbsent b (reach (b .trie) Root word) 
 unfoldable pub decideText : Book → Option (List ℕ) → ℕ → Decision
 decideText b none frequency = Refuse Malformed
 decideText b (some word) frequency = decide b word frequency
+
+-- what entering a word answers, and the book afterwards
+pub record EnterAnswer : Type 0 where
+  pub outcome : Outcome
+  pub book : Book
+
+abbrev pub enterAnswer : Outcome → Book → EnterAnswer
+enterAnswer o b = record { outcome = o; book = b }
+
+-- "A line enters": its word, with the tests "8, 5, 6, 7"; a refused word changes nothing
+abbrev pub enterBy : Book → List ℕ → ℕ → Decision → EnterAnswer
+enterBy b word frequency d = enterAnswer (outcomeOf d) (written b word frequency d)
+
+unfoldable pub enterText : Book → Option (List ℕ) → ℕ → EnterAnswer
+enterText b none frequency = enterAnswer Malformed b
+enterText b (some word) frequency = enterBy b word frequency (enter b word frequency)
+
+-- an answer with the areas as they are left
+abbrev pub entered : Entered → CharTrie → List ℕ → List Float → EnterAnswer
+entered r trie frequencies logarithms = enterAnswer (r .outcome) (bookOf (r .head) trie frequencies logarithms)
+
+-- a line enters: "3, 4", a blank one passed over, then its word
+abbrev pub enterMeaning : Book → Meaning → EnterAnswer
+enterMeaning b malformed = enterAnswer Malformed b
+enterMeaning b blank = enterAnswer Done b
+enterMeaning b badFrequency = enterAnswer BadFrequency b
+enterMeaning b (entry word frequency) = enterBy b word frequency (enter b word frequency)
+
+unfoldable pub enterLine : Book → List ℕ → EnterAnswer
+enterLine b line = enterMeaning b (meaningOf line)

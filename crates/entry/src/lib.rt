@@ -4,7 +4,7 @@ ghost use mathlib.Core.Path.{_≡_};
 ghost use mathlib.Core.List.{List};
 ghost use mathlib.Core.Option.{IsSome};
 ghost use lib.Ieee.{Float};
-ghost use mathlib.Core.Bool.{false};
+ghost use mathlib.Core.Bool.{true, false};
 ghost use Prim.Native.Nat.{_-_, _≤_, _<_};
 ghost use Rattle.score.specs.Logarithm.{logFloat};
 ghost use lib.ListN.{length, set};
@@ -12,8 +12,8 @@ ghost use Rattle.utf8.specs.Text.{charsOf};
 ghost use Rattle.trie.specs.Trie.{trieOf, log2, SlotCount};
 ghost use Rattle.walk.specs.Walk.{EquallyLong};
 ghost use Rattle.book.specs.Areas.{bookOf};
-ghost use Rattle.book.specs.Returns.{longestText, greatestTotal, headDamaged};
-ghost use Rattle.entry.specs.Texts.{absentText, decideText};
+ghost use Rattle.book.specs.Returns.{longestText, greatestTotal, allowed, headDamaged};
+ghost use Rattle.entry.specs.Texts.{absentText, decideText, enterText, entered};
 use book::Decision;
 use book::Head;
 use book::Outcome;
@@ -132,4 +132,86 @@ fn set_record(frequencies: &mut [u32], logarithms: &mut [f64], n: usize, frequen
 {
     frequencies[n] = frequency;
     logarithms[n] = score::log(frequency);
+}
+
+// What entering a word answers: 0 or the refusal, and the head that follows.
+pub struct Entered {
+    pub outcome: Outcome,
+    pub head: Head,
+}
+
+// A word enters with its frequency, or is refused and leaves everything as it was.
+pub fn load_entry(
+    head: Head,
+    root_children: &mut [u32],
+    root_words: &mut [i32],
+    keys: &mut [u64],
+    children: &mut [u32],
+    words: &mut [i32],
+    frequencies: &mut [u32],
+    logarithms: &mut [f64],
+    shift: u32,
+    word: &[u8],
+    frequency: u32,
+) -> Entered
+    requires { ⌜ allowed (length (now «root_children»)) (length (now «root_words»)) (length (now keys)) (length (now children)) (length (now words)) (length (now frequencies)) (length (now logarithms)) ≡ true ⌝ }
+    requires { ⌜ (shift ≡ 64 - log2 (length (now keys))) × IsSome (charsOf (now word)) × (length (now word) ≤ longestText) ⌝ }
+    ensures { λ r. ⌜ entered r (trieOf (now («root_children» .exit)) (now («root_words» .exit)) (now (keys .exit)) (now (children .exit)) (now (words .exit))) (now (frequencies .exit)) (now (logarithms .exit)) ≡ enterText (bookOf head (trieOf (now («root_children» .entry)) (now («root_words» .entry)) (now (keys .entry)) (now (children .entry)) (now (words .entry))) (now (frequencies .entry)) (now (logarithms .entry))) (charsOf (now (word .entry))) frequency ⌝ }
+{
+    if book::is_head_damaged(head, frequencies.len(), keys.len()) {
+        return Entered {
+            outcome: Outcome::Damaged,
+            head,
+        };
+    }
+    let decision = decide(
+        head,
+        root_children,
+        root_words,
+        keys,
+        children,
+        words,
+        frequencies,
+        shift,
+        word,
+        frequency as u64,
+    );
+    match decision {
+        Decision::Refuse(outcome) => Entered { outcome, head },
+        Decision::Replace(n, total) => {
+            set_record(frequencies, logarithms, n, frequency);
+            Entered {
+                outcome: Outcome::Done,
+                head: Head {
+                    records: head.records,
+                    slots: head.slots,
+                    next: head.next,
+                    total,
+                },
+            }
+        }
+        Decision::Insert(slots, nodes, total) => {
+            insert::insert(
+                root_children,
+                root_words,
+                keys,
+                children,
+                words,
+                shift,
+                word,
+                head.next as u32,
+                head.records as i32,
+            );
+            set_record(frequencies, logarithms, head.records as usize, frequency);
+            Entered {
+                outcome: Outcome::Done,
+                head: Head {
+                    records: head.records + 1,
+                    slots: head.slots + slots,
+                    next: head.next + nodes,
+                    total,
+                },
+            }
+        }
+    }
 }

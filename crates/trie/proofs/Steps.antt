@@ -8,15 +8,18 @@ use mathlib.Core.List.{List}
 use native.Mathlib.Nat.{pow-suc}
 use native.Mathlib.Omega.{arith}
 use borrow.Author.Tests.{eq-eqb, not-true, not-false}
+use lib.ListN.{length, getD, set}
 use lib.Pow.{pow-pos, ones-lt, ones-split, high}
-use Rattle.arith.specs.Bits.{hasBit}
+use lib.Seq.{getD-set-same}
+use Rattle.arith.specs.Bits.{hasBit, withBit}
+use Rattle.arith.proofs.Bits.{sets-its-bit}
 use Rattle.trie.specs.declared.ParentRef.the-variants.{Slot}
 use Rattle.trie.specs.declared.Probe.{Probe}
 use Rattle.trie.specs.declared.Probe.the-variants.{Found, Empty, Endless}
 use Rattle.trie.specs.declared.Step.{Step}
 use Rattle.trie.specs.declared.Step.the-variants.{At, Nothing, Damaged}
-use Rattle.trie.specs.Trie.{keyOf, filterHash, keyBit, childBit, nodeAt, fromRoot, probeOf, stepByProbe, openStep, bitsAt, testedStep, stepFrom}
-use Rattle.trie.specs.Claims.{KeyBitRange, ChildBitRange, StepsFromSlot, allOnes, StepsFromRootEntry}
+use Rattle.trie.specs.Trie.{keyOf, filterHash, keyBit, childBit, nodeAt, fromRoot, probeOf, stepByProbe, openStep, bitsAt, withBits, testedStep, stepFrom}
+use Rattle.trie.specs.Claims.{KeyBitRange, ChildBitRange, SetsTestedBits, StepsFromSlot, allOnes, StepsFromRootEntry}
 
 -- ---- bits
 
@@ -43,6 +46,17 @@ key-bit-below ch bit e = rw e (key-bit-range ch .1)
 
 pub child-bit-below : (ch bit : ℕ) → bit ≡ childBit ch → bit < 32
 child-bit-below ch bit e = rw e (child-bit-range ch .1)
+
+-- a bit that is set in an element of a list is there afterwards
+pub bit-there : (l : List ℕ) (i bit : ℕ) → i < length l → hasBit (getD (set l i (withBit (getD l i 0) bit)) i 0) bit ≡ true
+bit-there l i bit h = let same = getD-set-same l i (withBit (getD l i 0) bit) 0 h in rw same (sets-its-bit (getD l i 0) bit)
+
+pub sets-tested-bits : SetsTestedBits
+unfolding withBits bitsAt
+sets-tested-bits t ch i = (
+  bit-there (t .rootChildren) i (childBit ch),
+  λ h k. rw (bit-there (t .keys) i (keyBit ch) h) (bit-there (t .children) i (childBit ch) k),
+)
 
 -- ---- places
 

@@ -1,5 +1,6 @@
--- What is claimed of the definitions of `Trie`: where probes start and end, which bits a character has, and that a walk may step from the
--- numbers that it has read. Proofs: `proofs/Slots.antt`, `proofs/Probes.antt`, `proofs/Steps.antt`.
+-- What is claimed of the definitions of `Trie`: where probes start and end, which bits a character has, that an insertion sets
+-- the bits that a lookup tests, and that a walk may step from the numbers that it has read. Proofs: `proofs/Slots.antt`,
+-- `proofs/Probes.antt`, `proofs/Steps.antt`.
 -- Assumes nothing.
 use Prim.Native.Nat.{ℕ, _-_, _%_, _^_, _≤_, _<_}
 use mathlib.Core.Bool.{true}
@@ -8,7 +9,7 @@ use mathlib.Core.Path.{_≡_}
 use lib.ListN.{length, getD}
 use Rattle.trie.specs.declared.ParentRef.the-variants.{RootEntry, Slot}
 use Rattle.trie.specs.declared.Probe.the-variants.{Found, Empty}
-use Rattle.trie.specs.Trie.{CharTrie, SlotCount, startSlot, probeOf, emptySlot, keyBit, childBit, testedStep, stepFrom}
+use Rattle.trie.specs.Trie.{CharTrie, SlotCount, startSlot, probeOf, emptySlot, keyBit, childBit, bitsAt, withBits, testedStep, stepFrom}
 use Rattle.trie.specs.SlotCounts.{slotCount}
 
 -- the test of a number of slots is true of exactly the numbers that 01 allows
@@ -37,6 +38,13 @@ KeyBitRange = (ch : ℕ) → (48 ≤ keyBit ch) × (keyBit ch < 64)
 
 abbrev pub ChildBitRange : Type 0
 ChildBitRange = (ch : ℕ) → (24 ≤ childBit ch) × (childBit ch < 32)
+
+-- the bits that an insertion sets at a place are those that a lookup tests there
+abbrev pub SetsTestedBits : Type 0
+SetsTestedBits =
+    (t : CharTrie) (ch i : ℕ)
+    → (i < length (t .rootChildren) → bitsAt (withBits t (RootEntry i) ch) (RootEntry i) ch ≡ true)
+    × (i < length (t .keys) → i < length (t .children) → bitsAt (withBits t (Slot i) ch) (Slot i) ch ≡ true)
 
 -- a step from a slot is a step from its key and its child
 abbrev pub StepsFromSlot : Type 0

@@ -1,4 +1,6 @@
 -- Proofs of the claims, and the laws that the functions' proofs, here and in the crates above, cite.
 pub mod Places
-pub mod Walks
+pub mod Characters
+pub mod Lookups
 pub mod NewSteps
+pub mod Rooms

@@ -22,7 +22,7 @@ use Rattle.trie.specs.Trie.{CharTrie, noWord, wordNumber, wordAt, SlotCount, ke
 use Rattle.trie.specs.Claims.{allOnes}
 use Rattle.trie.proofs.Probes.{found-has-key}
 use Rattle.trie.proofs.Steps.{steps-from-slot, steps-from-root-entry}
-use Rattle.walk.specs.Walk.{Inside, firstStep}
+use Rattle.walk.specs.Walk.{EquallyLong, Inside, firstStep}
 use Rattle.walk.specs.Claims.{FirstStepIsOpen, FirstStepIsTested, OpenStepsInside, TestedStepsInside, WalksInside}
 
 -- ---- the root's step
@@ -111,8 +111,10 @@ pub starts-inside : (roots slots : ℕ) → Inside roots slots Root
 unfolding Inside
 starts-inside roots slots = tt
 
-pub same-inside : (roots slots roots′ slots′ : ℕ) (p : ParentRef) → roots′ ≡ roots → slots′ ≡ slots → Inside roots slots p → Inside roots′ slots′ p
-same-inside roots slots roots′ slots′ p e f inside = rw (e, f) inside
+-- a place has a word number where it has a child
+pub word-inside : (rootChildren : List ℕ) (rootWords : List ℤ) (keys children : List ℕ) (words : List ℤ) (p : ParentRef)
+    → EquallyLong rootChildren rootWords keys children words → Inside (length rootChildren) (length keys) p → Inside (length rootWords) (length words) p
+word-inside rootChildren rootWords keys children words p long inside = rw (long .rootEntries, long .slotWords) inside
 
 -- ---- what the code reads at a place
 

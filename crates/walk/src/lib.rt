@@ -19,6 +19,7 @@ use trie::Got;
 use trie::ParentRef;
 use trie::Step;
 use trie::WordNumber;
+use trie::char_trie;
 use utf8::CharCount;
 use utf8::Character;
 
@@ -55,7 +56,7 @@ pub fn root_step(root_children: &[u32], keys: &[u64], shift: u32, ch: u32) -> St
         }
         return Step::At(ParentRef::RootEntry(i));
     }
-    trie::char_trie::slot_step(keys, shift, 0, ch)
+    char_trie::slot_step(keys, shift, 0, ch)
 }
 
 // A lookup's step: it tests the bits.
@@ -74,19 +75,16 @@ fn tested_step(
 {
     match place {
         ParentRef::Root => root_step(root_children, keys, shift, ch),
-        ParentRef::RootEntry(i) => trie::char_trie::step(
-            keys,
-            shift,
-            ALL_ONES,
-            root_children[i],
-            ch,
-        ),
-        ParentRef::Slot(i) => trie::char_trie::step(keys, shift, keys[i], children[i], ch),
+        ParentRef::RootEntry(i) => char_trie::step(keys, shift, ALL_ONES, root_children[i], ch),
+        ParentRef::Slot(i) => {
+            let filter = keys[i];
+            char_trie::step(keys, shift, filter, children[i], ch)
+        }
     }
 }
 
 // An insertion's step: it tests no bits.
-fn open_step(
+pub fn open_step(
     root_children: &[u32],
     keys: &[u64],
     children: &[u32],
@@ -101,18 +99,13 @@ fn open_step(
 {
     match place {
         ParentRef::Root => root_step(root_children, keys, shift, ch),
-        ParentRef::RootEntry(i) => trie::char_trie::slot_step(
+        ParentRef::RootEntry(i) => char_trie::slot_step(
             keys,
             shift,
             root_children[i] % trie::NODES,
             ch,
         ),
-        ParentRef::Slot(i) => trie::char_trie::slot_step(
-            keys,
-            shift,
-            children[i] % trie::NODES,
-            ch,
-        ),
+        ParentRef::Slot(i) => char_trie::slot_step(keys, shift, children[i] % trie::NODES, ch),
     }
 }
 
@@ -128,7 +121,7 @@ fn word_at(root_words: &[i32], words: &[i32], used: usize, place: ParentRef) -> 
     }
 }
 
-// The character at a position of a text that is known to be well formed.
+// The character at a position of a text that is known to be well formed, where nothing malformed is met, and no end.
 fn next_char(s: &[u8], at: usize) -> NextChar
     requires { ⌜ (at < length (now s)) × IsSome (charsFrom (now s) at) ⌝ }
     ensures { λ r. ⌜ characterAt (now (s .entry)) at ≡ Char (r .value) (r .width) ⌝ }
@@ -207,7 +200,8 @@ fn new_steps(root_children: &[u32], place: ParentRef, ch: u32, s: &[u8]) -> Room
     match place {
         ParentRef::Root => {
             if (ch as usize) < root_children.len() {
-                return Room::Partly(nodes - 1, nodes);
+                let slots = nodes - 1;
+                return Room::Partly(slots, nodes);
             }
             Room::Partly(nodes, nodes)
         }

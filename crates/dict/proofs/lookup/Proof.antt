@@ -5,7 +5,7 @@ use borrow.Author.Tests.{not-true, not-false}
 use Rattle.utf8.specs.Text.{charsOf}
 use Rattle.book.proofs.Held.{held-used}
 use Rattle.book.proofs.Sizes.{sizes, head-within}
-use Rattle.dict.proofs.Areas.{slot-count, slots-most, equally-long}
+use Rattle.book.proofs.Areas.{slot-count, slots-most, equally-long}
 use Rattle.dict.proofs.Lookups.{counted, areas-refused, too-long, malformed, empty, head-damaged, looked-up}
 use borrow.Author.Needs.{needs}
 use Rattle.dict.proofs.lookup.Statement.{statement}
@@ -18,7 +18,7 @@ returns : tie.Need-returns
 returns c = areas-refused _ _ (sym (c .before .is-allowed .ensures) ∙ not-true _ (c .if1 .taken))
 
 returns-2 : tie.Need-returns-2
-returns-2 c = too-long _ _ (sym (c .before .before .is-allowed .ensures) ∙ not-false _ (c .before .if1 .left)) (c .if2 .taken)
+returns-2 c = too-long _ _ (sym (c .before .before .is-allowed .ensures) ∙ not-false _ (c .before .if1 .left)) (omega arith)
 
 char-count-requires : tie.Need-char-count-requires
 char-count-requires c κs = search needs

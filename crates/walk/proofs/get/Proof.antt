@@ -1,6 +1,6 @@
--- `walk::get` meets its contract: where the steps lead, the word number says what is found (`Walks`). Assumes nothing.
+-- `walk::get` meets its contract: where the steps lead, the word number says what is found (`Lookups`). Assumes nothing.
 use borrow.Author.Needs.{needs}
-use Rattle.walk.proofs.Walks.{reads-inside, get-nothing, get-damaged, get-no-word, get-record, get-bad}
+use Rattle.walk.proofs.Lookups.{reads-inside, get-nothing, get-damaged, get-no-word, get-record, get-bad}
 use Rattle.walk.proofs.get.Statement.{statement}
 use Rattle.walk.proofs.get.Tie as tie
 
@@ -14,7 +14,7 @@ word-at-requires : tie.Need-word-at-requires
 word-at-requires c κs =
     let walked = c .before .before .before in
     let entry = walked .before .before .before .before .before in
-    reads-inside _ _ _ (entry .pre .1 .0) _ _ _ (walked .walk .ensures) (c .before .place .given .1) _ _ (entry .pre .0 .rootEntries) (entry .pre .0 .slotWords)
+    reads-inside _ _ _ _ _ _ _ _ (entry .pre .0) (entry .pre .1 .0) (walked .walk .ensures) (c .before .place .given .1)
 
 enum-told : tie.Need-enum-told
 enum-told c = search needs
@@ -32,28 +32,19 @@ enum-told-4 : tie.Need-enum-told-4
 enum-told-4 c = search needs
 
 returns : tie.Need-returns
-returns c =
-    let number = c .before .before in
-    let place = number .before .before in
-    get-no-word _ _ _ _ (place .before .before .walk .ensures _ _) _ (place .place .given .1) _ (number .word-at .ensures _ _ _) (c .enum-told .given .1)
+returns c = search get-no-word
 
 returns-2 : tie.Need-returns-2
-returns-2 c =
-    let number = c .before .before .before in
-    let place = number .before .before in
-    get-record _ _ _ _ (place .before .before .walk .ensures _ _) _ (place .place .given .1) _ (number .word-at .ensures _ _ _) _ (c .before .n .given .1)
+returns-2 c = search get-record
 
 returns-3 : tie.Need-returns-3
-returns-3 c =
-    let number = c .before .before in
-    let place = number .before .before in
-    get-bad _ _ _ _ (place .before .before .walk .ensures _ _) _ (place .place .given .1) _ (number .word-at .ensures _ _ _) (c .enum-told2 .given .1)
+returns-3 c = search get-bad
 
 returns-4 : tie.Need-returns-4
-returns-4 c = get-nothing _ _ _ _ (c .before .before .walk .ensures _ _) (c .enum-told3 .given .1)
+returns-4 c = search get-nothing
 
 returns-5 : tie.Need-returns-5
-returns-5 c = get-damaged _ _ _ _ (c .before .before .walk .ensures _ _) (c .enum-told4 .given .1)
+returns-5 c = search get-damaged
 
 pub get-spec : {M : Type 1} → statement M
 get-spec =

@@ -19,8 +19,8 @@ returns c = λ rootWords words keys children cs all. absurd (count-known _ _ (c 
 enum-told-2 : tie.Need-enum-told-2
 enum-told-2 c = search needs
 
-sub-t11 : tie.Need-sub-t11
-sub-t11 c = search count-positive
+sub-slots : tie.Need-sub-slots
+sub-slots c = search count-positive
 
 returns-2 : tie.Need-returns-2
 returns-2 c = λ rootWords words keys children cs all. search new-at-root
@@ -49,7 +49,7 @@ new-steps-spec =
     enum-told
     returns
     enum-told-2
-    sub-t11
+    sub-slots
     returns-2
     enum-told-3
     enum-told-4

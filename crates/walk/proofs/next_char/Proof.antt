@@ -3,7 +3,7 @@ use mathlib.Core.Path.{sym, _∙_}
 use native.Mathlib.Omega.{arith}
 use borrow.Author.Needs.{needs}
 use Rattle.utf8.proofs.Positions.{not-within}
-use Rattle.walk.proofs.Walks.{never-malformed}
+use Rattle.walk.proofs.Characters.{never-malformed}
 use Rattle.walk.proofs.next_char.Statement.{statement}
 use Rattle.walk.proofs.next_char.Tie as tie
 

@@ -1,18 +1,19 @@
 -- `walk::room_for` meets its contract. The loop's invariant: the place is one of the tables, the text from the position on is well formed, and what
 -- it finds from the place is what the whole text finds from the root. Assumes nothing.
-use mathlib.Core.Path.{_≡_, ap, _∙_}
+use mathlib.Core.Path.{_≡_, ap}
 use mathlib.Core.Option.{IsSome}
 use Prim.Native.Nat.{_-_, _≤_}
 use native.Mathlib.Omega.{arith}
 use lib.ListN.{length}
 use borrow.Author.Needs.{needs}
+use Rattle.trie.specs.Trie.{trieOf}
 use Rattle.trie.specs.declared.ParentRef.the-variants.{Root}
 use Rattle.utf8.specs.Text.{charsOf, charsFrom}
 use Rattle.utf8.proofs.Positions.{inside, from-start}
-use Rattle.trie.specs.Trie.{trieOf}
 use Rattle.walk.specs.Walk.{Inside, roomFrom, roomOf}
-use Rattle.walk.proofs.Places.{starts-inside, same-inside, leads-open}
-use Rattle.walk.proofs.Walks.{chars-start, value-below, still-chars, begins-with, room-next, room-missing, room-damaged, room-whole}
+use Rattle.walk.proofs.Places.{starts-inside, word-inside, leads-open}
+use Rattle.walk.proofs.Characters.{chars-start, value-below, still-chars, begins-with}
+use Rattle.walk.proofs.Rooms.{room-next, room-missing, room-damaged, room-whole}
 use Rattle.walk.proofs.room_for.Statement.{statement}
 use Rattle.walk.proofs.room_for.Tie as tie
 
@@ -46,16 +47,12 @@ loop-less c = omega (arith, inside _ _ _ _ (c .before .before .before .before .b
 
 loop-again : tie.Need-loop-again Inv-loop μ-loop
 loop-again c =
-    let child = c .before .before in
-    let stepped = child .before .before in
-    let read = stepped .before .next-char .ensures in
-    let loop = stepped .before .before .before in
-    let inv = loop .loop .inv in
-    let entry = loop .before .before .before .before .before in (
-      omega (arith, inside _ _ _ _ read),
-      leads-open _ _ _ (entry .pre .1 .0) _ _ _ _ (child .child .given .1) (stepped .open-step .ensures),
-      still-chars _ _ (inv .2) _ _ read,
-      room-next _ _ _ _ _ _ _ read _ (stepped .open-step .ensures _ _) _ (child .child .given .1) ∙ inv .3,
+    let stepped = c .before .before .before .before in
+    let entry = stepped .before .before .before .before .before .before .before .before in (
+      omega (arith, inside _ _ _ _ (stepped .before .next-char .ensures)),
+      leads-open _ _ _ (entry .pre .1 .0) _ _ _ _ (c .before .before .child .given .1) (stepped .open-step .ensures),
+      search still-chars,
+      search room-next,
     )
 
 enum-told : tie.Need-enum-told Inv-loop μ-loop
@@ -71,32 +68,22 @@ part-new-steps-end : tie.Need-part-new-steps-end Inv-loop μ-loop
 part-new-steps-end c = search needs
 
 new-steps-requires : tie.Need-new-steps-requires Inv-loop μ-loop
-new-steps-requires c κs =
-    let stepped = c .before .before .before in
-    begins-with _ _ (stepped .before .before .before .loop .inv .2) _ _ (stepped .before .next-char .ensures)
+new-steps-requires c κs = search begins-with
 
 returns : tie.Need-returns Inv-loop μ-loop
-returns c =
-    let told = c .before .before in
-    let stepped = told .before .before in
-    let inv = stepped .before .before .before .loop .inv in
-    room-missing _ _ _ _ _ _ _ (stepped .before .next-char .ensures) _ (stepped .open-step .ensures _ _) (inv .2) (told .enum-told .given .1) _ (c .new-steps .ensures _ _ _ _) ∙ inv .3
+returns c = search room-missing
 
 enum-told-2 : tie.Need-enum-told-2 Inv-loop μ-loop
 enum-told-2 c = search needs
 
 returns-2 : tie.Need-returns-2 Inv-loop μ-loop
-returns-2 c =
-    let stepped = c .before .before in
-    room-damaged _ _ _ _ _ _ _ (stepped .before .next-char .ensures) _ (stepped .open-step .ensures _ _) (c .enum-told2 .given .1) ∙ stepped .before .before .before .loop .inv .3
+returns-2 c = search room-damaged
 
 word-at-requires : tie.Need-word-at-requires Inv-loop μ-loop
-word-at-requires c κs =
-    let entry = c .before .before .before .before .before .before in
-    same-inside _ _ _ _ _ (entry .pre .0 .rootEntries) (entry .pre .0 .slotWords) (c .before .loop .inv .1)
+word-at-requires c κs = search (word-inside, c .before .before .before .before .before .before .pre)
 
 returns-3 : tie.Need-returns-3 Inv-loop μ-loop
-returns-3 c = room-whole _ _ _ _ _ _ (c .word-at .ensures _ _ _) (c .before .loop-test .left) ∙ c .before .before .loop .inv .3
+returns-3 c = search room-whole
 
 pub room-for-spec : {M : Type 1} → statement M
 room-for-spec =

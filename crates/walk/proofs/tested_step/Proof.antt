@@ -25,17 +25,17 @@ step-requires c κs = search needs
 enum-known-place-2 : tie.Need-enum-known-place-2
 enum-known-place-2 c = search needs
 
+mul-filter : tie.Need-mul-filter
+mul-filter c = search (needs, slot-inside)
+
+shared-slice-read-filter : tie.Need-shared-slice-read-filter
+shared-slice-read-filter c = search slot-inside
+
 mul-step-2 : tie.Need-mul-step-2
 mul-step-2 c = search (needs, slot-inside)
 
 shared-slice-read-step-2 : tie.Need-shared-slice-read-step-2
 shared-slice-read-step-2 c = search slot-inside
-
-mul-step-3 : tie.Need-mul-step-3
-mul-step-3 c = search (needs, slot-inside)
-
-shared-slice-read-step-3 : tie.Need-shared-slice-read-step-3
-shared-slice-read-step-3 c = search slot-inside
 
 step-requires-2 : tie.Need-step-requires-2
 step-requires-2 c κs = search needs
@@ -60,10 +60,10 @@ tested-step-spec =
     shared-slice-read-step
     step-requires
     enum-known-place-2
+    mul-filter
+    shared-slice-read-filter
     mul-step-2
     shared-slice-read-step-2
-    mul-step-3
-    shared-slice-read-step-3
     step-requires-2
     returns
     returns-2

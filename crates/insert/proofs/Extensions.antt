@@ -1,0 +1,83 @@
+-- The steps that are new, a turn of the loop at a time. A turn reads a character and makes its step, as `extend` does with the first of the characters
+-- left. So the extension still to be made stays that of the whole, and where the loop ends it is made. Assumes nothing.
+use Prim.Native.Nat.{ℕ, _+_, _-_, _^_, _≤_, _<_}
+use mathlib.Core.Path.{_≡_, refl, sym, ap, _∙_}
+use mathlib.Core.Logic.{inl, inr}
+use mathlib.Core.List.{List, [], _∷_}
+use mathlib.Core.Option.{IsSome}
+use native.Mathlib.Omega.{arith}
+use denote.Enum.Declared.{tagOf}
+use types.Run.{OneOf}
+use lib.IntN.{ℤ}
+use lib.ListN.{length, drop}
+use Rattle.utf8.specs.declared.Character.{Character}
+use Rattle.utf8.specs.declared.Character.the-variants.{Char}
+use Rattle.utf8.specs.Characters.{characterAt}
+use Rattle.utf8.specs.Text.{charsOf}
+use Rattle.trie.proofs.Step as Step·type
+use Rattle.trie.specs.declared.ParentRef.{ParentRef}
+use Rattle.trie.specs.declared.Step.{Step}
+use Rattle.trie.specs.declared.Step.the-variants.{At, Nothing, Damaged}
+use Rattle.trie.specs.Trie.{CharTrie, SlotCount, withWord, extend}
+use Rattle.insert.specs.Insert.{Inside, characters, Stepped, stepped, newStep, extendStepped}
+use Rattle.insert.specs.Claims.{SameLengths}
+use Rattle.insert.proofs.Lengths.{same-lengths, then-same, new-step-keeps}
+use Rattle.insert.proofs.NewSteps.{new-inside, extend-end, extend-steps-then-extends}
+use Rattle.insert.proofs.Inside.{inside-same, slots-same}
+use Rattle.insert.proofs.Words.{no-more, char-inside, one-more, still-well-formed}
+
+-- ---- the extension by a word, by the step of its first character
+
+module _ (t : CharTrie) (p : ParentRef) (c : ℕ) (cs word : List ℕ) (node : ℕ) (number : ℤ) (split : word ≡ c ∷ cs) where
+  after-step : (r : Step) (u : CharTrie) → stepped r u ≡ newStep t p c node → extendStepped (stepped r u) cs (node + 1) number ≡ extend t p word node number
+  after-step r u made = ap (λ (x : Stepped). extendStepped x cs (node + 1) number) made ∙ sym (ap (λ (l : List ℕ). extend t p l node number) split ∙ extend-steps-then-extends t p c cs node number)
+
+  extend-on : (r : Step) (u : CharTrie) (q : ParentRef) → stepped r u ≡ newStep t p c node → r ≡ At q → extend u q cs (node + 1) number ≡ extend t p word node number
+  unfolding extendStepped
+  extend-on r u q made e = ap (λ (x : Step). extendStepped (stepped x u) cs (node + 1) number) (sym e) ∙ after-step r u made
+
+  -- of a step that leads nowhere the code knows only that it is one of the other variants
+  extend-stops : (r : Step) (u : CharTrie) → stepped r u ≡ newStep t p c node → OneOf (1 ∷ 2 ∷ []) (tagOf Step·type.the-type r) → u ≡ extend t p word node number
+  unfolding extendStepped
+  extend-stops (At q) u made (inl h) = absurd (omega arith)
+  extend-stops (At q) u made (inr h) = absurd (omega arith)
+  extend-stops Nothing u made h = after-step Nothing u made
+  extend-stops Damaged u made h = after-step Damaged u made
+
+-- ---- the loop
+
+-- where it stands: at a place and a position from which the extension still to be made comes to the goal
+pub record Extending (t₀ : CharTrie) (s : List ℕ) (number : ℤ) (goal t : CharTrie) (p : ParentRef) (at node : ℕ) : Type 0 where
+  pub long : SameLengths t t₀
+  pub inside : Inside (length (t₀ .rootChildren)) (length (t₀ .keys)) p
+  pub well-formed : IsSome (charsOf (drop at s))
+  pub room : node + (length s - at) < 2 ^ 32
+  pub same : extend t p (characters (drop at s)) node number ≡ goal
+
+pub begins : (t : CharTrie) (s : List ℕ) (number : ℤ) (p : ParentRef) (at node : ℕ) → Inside (length (t .rootChildren)) (length (t .keys)) p → IsSome (charsOf (drop at s)) → node + length s < 2 ^ 32
+    → Extending t s number (extend t p (characters (drop at s)) node number) t p at node
+begins t s number p at node inside well-formed room = record { long = same-lengths t; inside = inside; well-formed = well-formed; room = omega arith; same = refl }
+
+module _ {t₀ : CharTrie} {s : List ℕ} {number : ℤ} {goal t : CharTrie} {p : ParentRef} {at node : ℕ} (here : Extending t₀ s number goal t p at node) where
+  pub ends : (u : CharTrie) → length s ≤ at → u ≡ withWord t p number → u ≡ goal
+  ends u past named = named ∙ sym (ap (λ (l : List ℕ). extend t p l node number) (no-more s at past) ∙ extend-end t p node number) ∙ here .same
+
+  module _ {r : Character} {c w : ℕ} (read : r ≡ characterAt s at) (char : r ≡ Char c w) {next : Step} {u : CharTrie} (made : stepped next u ≡ newStep t p c node) where
+    split : characters (drop at s) ≡ c ∷ characters (drop (at + w) s)
+    split = one-more s at r read (here .well-formed) c w char
+
+    pub stops : OneOf (1 ∷ 2 ∷ []) (tagOf Step·type.the-type next) → u ≡ goal
+    stops other = extend-stops t p c _ _ node number split next u made other ∙ here .same
+
+    pub goes-on : {q : ParentRef} → SlotCount (length (t₀ .keys)) → next ≡ At q → Extending t₀ s number goal u q (at + w) (node + 1)
+    goes-on {q} allowed e =
+        let width = char-inside s at r read c w char in
+        let room = here .room in
+        let longer : SameLengths u t = rw (ap (λ (x : Stepped). x .trie) made) (new-step-keeps t p c node) in
+        record {
+          long = then-same longer (here .long);
+          inside = inside-same _ _ _ _ q (sym (here .long .rootChildren)) (sym (here .long .keys)) (new-inside t p c node (slots-same _ _ (here .long .keys) allowed) next u q made e);
+          well-formed = still-well-formed s at r read (here .well-formed) c w char;
+          room = omega arith;
+          same = extend-on t p c _ _ node number split next u q made e ∙ here .same;
+        }

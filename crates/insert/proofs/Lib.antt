@@ -1,0 +1,8 @@
+-- Proofs of the claims, and the laws that the functions' proofs, here and in the crates above, cite.
+pub mod Inside
+pub mod Places
+pub mod Words
+pub mod NewSteps
+pub mod Lengths
+pub mod Marks
+pub mod Extensions

@@ -1,0 +1,87 @@
+-- `insert::insert` meets its contract: what `mark` has left to do, `extend` does (`Marks`). Assumes nothing.
+use mathlib.Core.Path.{refl}
+use mir.Facts.{toZ-ofZ}
+use borrow.Author.Needs.{needs}
+use Rattle.insert.proofs.Inside.{inside-same, sizes-same}
+use Rattle.insert.proofs.Marks.{inserted, not-inserted, place-ready, rest-ready}
+use Rattle.insert.proofs.insert.Statement.{statement}
+use Rattle.insert.proofs.insert.Tie as tie
+
+mark-requires : tie.Need-mark-requires
+mark-requires c κs =
+    let start = c .before .before .before .before .before .before .before in
+    (start .pre .0 .slotCount, (start .pre .0 .shifted, (start .pre .0 .childLengths, start .pre .1 .0)))
+
+enum-known-place : tie.Need-enum-known-place
+enum-known-place c = search needs
+
+enum-told : tie.Need-enum-told
+enum-told c = search needs
+
+same-length : tie.Need-same-length
+same-length c = search needs
+
+same-length-2 : tie.Need-same-length-2
+same-length-2 c = search needs
+
+same-length-3 : tie.Need-same-length-3
+same-length-3 c = search needs
+
+returns : tie.Need-returns
+returns c =
+    let marks = c .before .before .before .before .before .before .before .before in
+    not-inserted _ _ _ _ _ _ _ (marks .mark .ensures .1 _ _) (c .enum-told .given .1)
+
+extend-requires : tie.Need-extend-requires
+extend-requires c κs =
+    let place = c .before .before .before .before .before .before in
+    let marks = place .before .before .before .before .before .before .before .before in
+    let start = marks .before .before .before .before .before .before .before .before in
+    let kept = marks .mark .kept in (
+      sizes-same _ _ _ _ _ _ _ _ _ _ _ (kept .0) refl (kept .1 .0) (kept .1 .1 .0) refl (start .pre .0),
+      (
+        inside-same _ _ _ _ _ (kept .0) (kept .1 .0) (place-ready _ _ _ _ (marks .mark .ensures .0) _ _ (place .place .given .1)),
+        (rest-ready _ _ _ _ (marks .mark .ensures .0) _ _ (place .place .given .1), start .pre .1 .1),
+      ),
+    )
+
+same-length-4 : tie.Need-same-length-4
+same-length-4 c = search needs
+
+same-length-5 : tie.Need-same-length-5
+same-length-5 c = search needs
+
+same-length-6 : tie.Need-same-length-6
+same-length-6 c = search needs
+
+same-length-7 : tie.Need-same-length-7
+same-length-7 c = search needs
+
+same-length-8 : tie.Need-same-length-8
+same-length-8 c = search needs
+
+returns-2 : tie.Need-returns-2
+returns-2 c =
+    let ext = c .before .before .before .before .before .before .before .before in
+    let place = ext .before .before .before .before .before .before .before in
+    let marks = place .before .before .before .before .before .before .before .before in
+    inserted _ _ _ _ _ _ _ (marks .mark .ensures .1 _ _) _ _ _ (place .place .given .1) (rw (toZ-ofZ (marks .before .before .before .before .before .before .before .before .fits .number)) at (ext .extend .ensures))
+
+pub insert-spec : {M : Type 1} → statement M
+insert-spec =
+    tie.close
+    (tie.spec
+    mark-requires
+    enum-known-place
+    enum-told
+    same-length
+    same-length-2
+    same-length-3
+    returns
+    extend-requires
+    same-length-4
+    same-length-5
+    same-length-6
+    same-length-7
+    same-length-8
+    returns-2)

@@ -1,0 +1,344 @@
+//! A word's insertion into the trie: `CharTrie::insert` (trie.rs).
+//!
+//! The Rust has one loop with a branch for each kind of step. Here the steps that are there come first, with their bits
+//! (`mark`), and the new ones after them (`extend`): from a word's first absent step on every step is new. The tables are lent,
+//! as to the lookups: the root's children and word numbers; the slots' keys, children and word numbers; and the shift that goes
+//! with the number of slots. A function takes only the tables that it touches, and what it ensures of the trie holds whatever
+//! the others contain.
+//!
+//! Nothing is refused here: the caller has checked the text, the slots and the node numbers before anything is written. In
+//! tables that were not filled here a probe may still meet neither its key nor an empty slot; the insertion then stops.
+ghost use mathlib.Core.Path.{_≡_};
+ghost use mathlib.Core.List.{List};
+ghost use mathlib.Core.Option.{IsSome};
+ghost use Prim.Native.Nat.{ℕ, _+_, _-_, _^_, _<_};
+ghost use lib.IntN.{ℤ};
+ghost use lib.ListN.{length, drop};
+ghost use Rattle.utf8.specs.Text.{charsOf};
+ghost use Rattle.trie.specs.declared.ParentRef.the-variants.{Root};
+ghost use Rattle.trie.specs.Trie as Trie;
+ghost use Rattle.trie.specs.Trie.{trieOf, log2, SlotCount, nodeAt, fromRoot, openStep, withBits, withWord, newRootEntry, newSlot};
+ghost use Rattle.insert.specs.Insert as Insert;
+ghost use Rattle.insert.specs.Insert.{characters, Inside, Sizes, marked, reachOf, Ready, stepped, newStep};
+use trie::ParentRef;
+use trie::Probe;
+use trie::Step;
+use utf8::Character;
+
+// 2^24: a child's node is what is below it.
+const NODES: u32 = 0x100_0000;
+
+// The word number of a step at which no word ends.
+const NO_WORD: i32 = -1;
+
+// How far a word's steps are there.
+pub enum Marked {
+    // Up to a place; the rest of the word stands from a position of its text on.
+    UpTo(ParentRef, usize),
+    // A probe without an end: the book is damaged.
+    Damaged,
+}
+
+// The node at a place.
+fn node_at(root_children: &[u32], children: &[u32], place: ParentRef) -> u32
+    requires { ⌜ Inside (length (now «root_children»)) (length (now children)) place ⌝ }
+    ensures { λ r. ⌜
+        ((rootWords words : List ℤ) (keys : List ℕ)
+        → r ≡ nodeAt (trieOf (now («root_children» .entry)) rootWords keys (now (children .entry)) words) place)
+        ⌝ }
+{
+    match place {
+        ParentRef::Root => 0,
+        ParentRef::RootEntry(i) => root_children[i] % NODES,
+        ParentRef::Slot(i) => children[i] % NODES,
+    }
+}
+
+// Whether a step uses the root table: that of a first character that has an entry there.
+fn from_root(root_children: &[u32], place: ParentRef, ch: u32) -> bool
+    ensures { λ r. ⌜
+        ((rootWords words : List ℤ) (keys children : List ℕ)
+        → r ≡ fromRoot (trieOf (now («root_children» .entry)) rootWords keys children words) place ch)
+        ⌝ }
+{
+    match place {
+        ParentRef::Root => (ch as usize) < root_children.len(),
+        ParentRef::RootEntry(_) => false,
+        ParentRef::Slot(_) => false,
+    }
+}
+
+// Where the step on a character leads. An insertion tests no bits.
+fn open_step(
+    root_children: &[u32],
+    keys: &[u64],
+    children: &[u32],
+    shift: u32,
+    place: ParentRef,
+    ch: u32,
+) -> Step
+    requires { ⌜ SlotCount (length (now keys)) ⌝ }
+    requires { ⌜ shift ≡ 64 - log2 (length (now keys)) ⌝ }
+    requires { ⌜ Inside (length (now «root_children»)) (length (now children)) place ⌝ }
+    requires { ⌜ ch < 2 ^ 21 ⌝ }
+    ensures { λ r. ⌜
+        ((rootWords words : List ℤ)
+        → r ≡ openStep (trieOf (now («root_children» .entry)) rootWords (now (keys .entry)) (now (children .entry)) words) place ch)
+        ⌝ }
+{
+    if from_root(root_children, place, ch) {
+        let i = ch as usize;
+        if root_children[i] == 0 {
+            return Step::Nothing;
+        }
+        return Step::At(ParentRef::RootEntry(i));
+    }
+    let node = node_at(root_children, children, place);
+    trie::char_trie::slot_step(keys, shift, node, ch)
+}
+
+// A place gains a character's filter bits: a slot both, a root entry the child's, the root neither.
+fn set_bits(
+    root_children: &mut [u32],
+    keys: &mut [u64],
+    children: &mut [u32],
+    place: ParentRef,
+    ch: u32,
+)
+    requires { ⌜ Inside (length (now «root_children»)) (length (now keys)) place ⌝ }
+    requires { ⌜ length (now children) ≡ length (now keys) ⌝ }
+    ensures { λ _. ⌜
+        ((rootWords words : List ℤ)
+        → trieOf (now («root_children» .exit)) rootWords (now (keys .exit)) (now (children .exit)) words
+        ≡ withBits (trieOf (now («root_children» .entry)) rootWords (now (keys .entry)) (now (children .entry)) words) place ch)
+        ⌝ }
+{
+    let bits = trie::filter_bits(ch);
+    match place {
+        ParentRef::Root => {}
+        ParentRef::RootEntry(i) => {
+            root_children[i] = arith::set_bit_u32(root_children[i], bits.child);
+        }
+        ParentRef::Slot(i) => {
+            keys[i] = arith::set_bit_u64(keys[i], bits.key);
+            children[i] = arith::set_bit_u32(children[i], bits.child);
+        }
+    }
+}
+
+// The word that ends at a place has this record.
+fn set_word(root_words: &mut [i32], words: &mut [i32], place: ParentRef, number: i32)
+    requires { ⌜ Inside (length (now «root_words»)) (length (now words)) place ⌝ }
+    ensures { λ _. ⌜
+        ((rootChildren keys children : List ℕ)
+        → trieOf rootChildren (now («root_words» .exit)) keys children (now (words .exit))
+        ≡ withWord (trieOf rootChildren (now («root_words» .entry)) keys children (now (words .entry))) place number)
+        ⌝ }
+{
+    match place {
+        ParentRef::Root => {}
+        ParentRef::RootEntry(i) => {
+            root_words[i] = number;
+        }
+        ParentRef::Slot(i) => {
+            words[i] = number;
+        }
+    }
+}
+
+// A root entry for a first character that has none.
+fn new_root_entry(root_children: &mut [u32], root_words: &mut [i32], ch: usize, node: u32)
+    requires { ⌜ ch < length (now «root_children») ⌝ }
+    requires { ⌜ length (now «root_words») ≡ length (now «root_children») ⌝ }
+    ensures { λ _. ⌜
+        ((keys children : List ℕ) (words : List ℤ)
+        → trieOf (now («root_children» .exit)) (now («root_words» .exit)) keys children words
+        ≡ newRootEntry (trieOf (now («root_children» .entry)) (now («root_words» .entry)) keys children words) ch node)
+        ⌝ }
+{
+    root_children[ch] = node;
+    root_words[ch] = NO_WORD;
+}
+
+// A slot for a step that has none.
+fn new_slot(
+    keys: &mut [u64],
+    children: &mut [u32],
+    words: &mut [i32],
+    i: usize,
+    key: u64,
+    node: u32,
+)
+    requires { ⌜ i < length (now keys) ⌝ }
+    requires { ⌜ length (now children) ≡ length (now keys) ⌝ }
+    requires { ⌜ length (now words) ≡ length (now keys) ⌝ }
+    ensures { λ _. ⌜
+        ((rootChildren : List ℕ) (rootWords : List ℤ)
+        → trieOf rootChildren rootWords (now (keys .exit)) (now (children .exit)) (now (words .exit))
+        ≡ newSlot (trieOf rootChildren rootWords (now (keys .entry)) (now (children .entry)) (now (words .entry))) i key node)
+        ⌝ }
+{
+    keys[i] = key;
+    children[i] = node;
+    words[i] = NO_WORD;
+}
+
+// Follows the steps of a word that are there, from the root on. Each place that it steps on from gains the character's bits.
+fn mark(
+    root_children: &mut [u32],
+    keys: &mut [u64],
+    children: &mut [u32],
+    shift: u32,
+    s: &[u8],
+) -> Marked
+    requires { ⌜ SlotCount (length (now keys)) ⌝ }
+    requires { ⌜ shift ≡ 64 - log2 (length (now keys)) ⌝ }
+    requires { ⌜ length (now children) ≡ length (now keys) ⌝ }
+    requires { ⌜ IsSome (charsOf (now s)) ⌝ }
+    ensures { λ r. ⌜ Ready (length (now («root_children» .entry))) (length (now (keys .entry))) (now (s .entry)) r ⌝ }
+    ensures { λ r. ⌜
+        ((rootWords words : List ℤ)
+        → marked (reachOf (now (s .entry)) r) (trieOf (now («root_children» .exit)) rootWords (now (keys .exit)) (now (children .exit)) words)
+        ≡ Insert.mark (trieOf (now («root_children» .entry)) rootWords (now (keys .entry)) (now (children .entry)) words) Root (characters (now (s .entry))))
+        ⌝ }
+{
+    let mut place = ParentRef::Root;
+    let mut at: usize = 0;
+    while at < s.len() {
+        let Character::Char(ch, width) = utf8::read_char(s, at) else {
+            return Marked::Damaged;
+        };
+        match open_step(root_children, keys, children, shift, place, ch) {
+            Step::At(next) => {
+                set_bits(root_children, keys, children, place, ch);
+                place = next;
+                at += width;
+            }
+            Step::Nothing => return Marked::UpTo(place, at),
+            Step::Damaged => return Marked::Damaged,
+        }
+    }
+    Marked::UpTo(place, at)
+}
+
+// Makes a step that is not there, with this node, and says where it leads.
+fn new_step(
+    root_children: &mut [u32],
+    root_words: &mut [i32],
+    keys: &mut [u64],
+    children: &mut [u32],
+    words: &mut [i32],
+    shift: u32,
+    place: ParentRef,
+    ch: u32,
+    node: u32,
+) -> Step
+    requires { ⌜ Sizes (length (now «root_children»)) (length (now «root_words»)) (length (now keys)) (length (now children)) (length (now words)) shift ⌝ }
+    requires { ⌜ Inside (length (now «root_children»)) (length (now keys)) place ⌝ }
+    requires { ⌜ ch < 2 ^ 21 ⌝ }
+    ensures { λ r. ⌜
+        stepped r (trieOf (now («root_children» .exit)) (now («root_words» .exit)) (now (keys .exit)) (now (children .exit)) (now (words .exit)))
+        ≡ newStep (trieOf (now («root_children» .entry)) (now («root_words» .entry)) (now (keys .entry)) (now (children .entry)) (now (words .entry))) place ch node
+        ⌝ }
+{
+    if from_root(root_children, place, ch) {
+        let i = ch as usize;
+        new_root_entry(root_children, root_words, i, node);
+        return Step::At(ParentRef::RootEntry(i));
+    }
+    let key = trie::key(node_at(root_children, children, place), ch);
+    let Probe::Empty(i) = trie::char_trie::first_empty(keys, shift, key) else {
+        return Step::Damaged;
+    };
+    set_bits(root_children, keys, children, place, ch);
+    new_slot(keys, children, words, i, key, node);
+    Step::At(ParentRef::Slot(i))
+}
+
+// Makes the steps for the characters of a text from a position on, the first of them from a place that is there. Their nodes
+// are numbered from `node` on, and the last one gets the record number.
+fn extend(
+    root_children: &mut [u32],
+    root_words: &mut [i32],
+    keys: &mut [u64],
+    children: &mut [u32],
+    words: &mut [i32],
+    shift: u32,
+    s: &[u8],
+    mut at: usize,
+    mut place: ParentRef,
+    mut node: u32,
+    number: i32,
+)
+    requires { ⌜ Sizes (length (now «root_children»)) (length (now «root_words»)) (length (now keys)) (length (now children)) (length (now words)) shift ⌝ }
+    requires { ⌜ Inside (length (now «root_children»)) (length (now keys)) place ⌝ }
+    requires { ⌜ IsSome (charsOf (drop at (now s))) ⌝ }
+    requires { ⌜ node + length (now s) < 2 ^ 32 ⌝ }
+    ensures { λ _. ⌜
+        trieOf (now («root_children» .exit)) (now («root_words» .exit)) (now (keys .exit)) (now (children .exit)) (now (words .exit))
+        ≡ Trie.extend (trieOf (now («root_children» .entry)) (now («root_words» .entry)) (now (keys .entry)) (now (children .entry)) (now (words .entry))) place (characters (drop at (now (s .entry)))) node number
+        ⌝ }
+{
+    while at < s.len() {
+        let Character::Char(ch, width) = utf8::read_char(s, at) else {
+            return;
+        };
+        let step = new_step(
+            root_children,
+            root_words,
+            keys,
+            children,
+            words,
+            shift,
+            place,
+            ch,
+            node,
+        );
+        let Step::At(next) = step else {
+            return;
+        };
+        place = next;
+        at += width;
+        node += 1;
+    }
+    set_word(root_words, words, place, number);
+}
+
+// Sets the record number of a word, making its steps as needed. New nodes are numbered from `node` on, at most one for each byte
+// of the text, so that their numbers fit.
+pub fn insert(
+    root_children: &mut [u32],
+    root_words: &mut [i32],
+    keys: &mut [u64],
+    children: &mut [u32],
+    words: &mut [i32],
+    shift: u32,
+    s: &[u8],
+    node: u32,
+    number: i32,
+)
+    requires { ⌜ Sizes (length (now «root_children»)) (length (now «root_words»)) (length (now keys)) (length (now children)) (length (now words)) shift ⌝ }
+    requires { ⌜ IsSome (charsOf (now s)) ⌝ }
+    requires { ⌜ node + length (now s) < 2 ^ 32 ⌝ }
+    ensures { λ _. ⌜
+        trieOf (now («root_children» .exit)) (now («root_words» .exit)) (now (keys .exit)) (now (children .exit)) (now (words .exit))
+        ≡ Trie.insert (trieOf (now («root_children» .entry)) (now («root_words» .entry)) (now (keys .entry)) (now (children .entry)) (now (words .entry))) Root (characters (now (s .entry))) node number
+        ⌝ }
+{
+    let Marked::UpTo(place, at) = mark(root_children, keys, children, shift, s) else {
+        return;
+    };
+    extend(
+        root_children,
+        root_words,
+        keys,
+        children,
+        words,
+        shift,
+        s,
+        at,
+        place,
+        node,
+        number,
+    );
+}
