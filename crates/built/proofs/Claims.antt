@@ -13,7 +13,7 @@ use Rattle.trie.specs.declared.Got.{Got}
 use Rattle.trie.specs.Trie.{walk, wordAt, getOf}
 use Rattle.book.specs.declared.Found.the-variants.{NotLookedUp}
 use Rattle.book.specs.declared.Outcome.the-variants.{TooLong}
-use Rattle.book.specs.Returns.{Book, longestText, foundBy, lookupChars, lookupOf}
+use Rattle.book.specs.Returns.{Book, sized, longestText, emptyBook, emptied, prepareOf, foundBy, lookupChars, lookupOf}
 use Rattle.built.specs.Ledger.{Entry, frequencyIn, foundInLedger, ledgerLookupChars, ledgerLookup, wordsAfter, ledgerWords}
 use Rattle.built.specs.Calls.{bookAfterAll, ledgerAfterAll, after}
 use Rattle.built.specs.Built.{Built}
@@ -28,9 +28,14 @@ use Rattle.built.proofs.Calls.{built-by-calls, none-damaged}
 pub built-has-invariant : BuiltHasInvariant
 built-has-invariant b ledger (after roots slots records calls sizes) = built-by-calls roots slots records calls sizes
 
+prepared-empty : (b : Book) → sized b ≡ true
+    → prepareOf (b .trie) (b .frequencies) (b .logarithms) ≡ emptied (emptyBook (length (b .trie .rootChildren)) (length (b .trie .keys)) (length (b .frequencies)))
+unfolding prepareOf
+prepared-empty b sizes = rw sizes
+
 pub prepared-is-built : PreparedIsBuilt
 unfolding bookAfterAll ledgerAfterAll
-prepared-is-built b sizes = after _ _ _ [] (lengths-allowed _ _ _ _ _ _ _ sizes)
+prepared-is-built b sizes = (prepared-empty b sizes, after _ _ _ [] (lengths-allowed _ _ _ _ _ _ _ sizes))
 
 -- ---- the words
 

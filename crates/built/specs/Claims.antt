@@ -21,7 +21,7 @@ use Rattle.trie.specs.declared.Step.the-variants.{At}
 use Rattle.trie.specs.Trie.{probeOf, openStep, testedStep, walk, getOf}
 use Rattle.score.specs.Logarithm.{logFloat}
 use Rattle.book.specs.declared.Outcome.the-variants.{Damaged}
-use Rattle.book.specs.Returns.{Book, sized, greatestTotal, lastNode, damagedHead, emptyBook, lookupOf}
+use Rattle.book.specs.Returns.{Book, sized, greatestTotal, lastNode, damagedHead, emptyBook, emptied, prepareOf, lookupOf}
 use Rattle.book.specs.Prefixes.{wordsFrom}
 use Rattle.built.specs.Ledger.{Entry, frequencyIn, sumOf, EachOnce, ledgerLookup, ledgerWords}
 use Rattle.built.specs.Calls.{Call, Answer, answersFrom, allowedSizes, BuiltByCalls}
@@ -33,9 +33,11 @@ use Rattle.built.specs.Built.{Built}
 abbrev pub BuiltHasInvariant : Type 0
 BuiltHasInvariant = (b : Book) (ledger : List Entry) → BuiltByCalls b ledger → Built b ledger
 
--- the empty book that `prepare` leaves of areas of allowed sizes is such a book, before any call
+-- what `prepare` leaves of areas of allowed sizes is the empty book, and that is such a book, before any call
 abbrev pub PreparedIsBuilt : Type 0
-PreparedIsBuilt = (b : Book) → sized b ≡ true → BuiltByCalls (emptyBook (length (b .trie .rootChildren)) (length (b .trie .keys)) (length (b .frequencies))) []
+PreparedIsBuilt = (b : Book) → sized b ≡ true
+    → (prepareOf (b .trie) (b .frequencies) (b .logarithms) ≡ emptied (emptyBook (length (b .trie .rootChildren)) (length (b .trie .keys)) (length (b .frequencies))))
+    × BuiltByCalls (emptyBook (length (b .trie .rootChildren)) (length (b .trie .keys)) (length (b .frequencies))) []
 
 -- ---- the words
 

@@ -1,0 +1,88 @@
+-- Document 01's starred examples of `cut` and `cut_all`, as one statement. Each row starts at the empty book, loads a dictionary, cuts a
+-- sentence into an area of as many places as there are tokens, and says each token's start and end in characters and in bytes.
+-- Texts are bytes, with what they read above them. Proof: `proofs/Examples.antt`.
+-- Assumes nothing.
+use Prim.Native.Nat.{ℕ, _/_}
+use mathlib.Core.List.{List, [], _∷_}
+use mathlib.Core.Path.{_≡_}
+use lib.ListN.{length, replicate}
+use Rattle.book.specs.declared.Outcome.the-variants.{Done}
+use Rattle.book.specs.Returns.{Book, emptyBook}
+use Rattle.book.specs.Enter.{loadOf}
+use Rattle.cuts.specs.Tokens.{tokenWidth}
+use Rattle.cuts.specs.Cuts.{CutAnswer, answer, cutOf, cutAllOf}
+
+-- the book that a dictionary's text makes of the empty one: 1 root entry, 64 slots, 16 records
+abbrev pub loaded : List ℕ → Book
+loaded text = loadOf (emptyBook 1 64 16) text .book
+
+-- 0, the tokens' count, and the token area: these numbers
+abbrev pub allTokens : List ℕ → CutAnswer
+allTokens numbers = answer Done (record { count = length numbers / tokenWidth; area = numbers })
+
+-- with places for 16 characters and 16 edges
+abbrev pub Cut : List ℕ → List ℕ → List ℕ → Type 0
+Cut text sentence numbers = cutOf (loaded text) 16 16 (replicate (length numbers) 0) sentence ≡ allTokens numbers
+
+abbrev pub CutAll : List ℕ → List ℕ → List ℕ → Type 0
+CutAll text sentence numbers = cutAllOf (loaded text) 16 (replicate (length numbers) 0) sentence ≡ allTokens numbers
+
+-- book A: 打开 256, 开灯 256, 打 64, 开 64, 灯 128, 客厅 128, 客厅灯 64, 厅灯 64
+abbrev pub bookA : List ℕ
+bookA =
+    230 ∷ 137 ∷ 147 ∷ 229 ∷ 188 ∷ 128 ∷ 32 ∷ 50 ∷ 53 ∷ 54 ∷ 10 ∷
+    229 ∷ 188 ∷ 128 ∷ 231 ∷ 129 ∷ 175 ∷ 32 ∷ 50 ∷ 53 ∷ 54 ∷ 10 ∷
+    230 ∷ 137 ∷ 147 ∷ 32 ∷ 54 ∷ 52 ∷ 10 ∷
+    229 ∷ 188 ∷ 128 ∷ 32 ∷ 54 ∷ 52 ∷ 10 ∷
+    231 ∷ 129 ∷ 175 ∷ 32 ∷ 49 ∷ 50 ∷ 56 ∷ 10 ∷
+    229 ∷ 174 ∷ 162 ∷ 229 ∷ 142 ∷ 133 ∷ 32 ∷ 49 ∷ 50 ∷ 56 ∷ 10 ∷
+    229 ∷ 174 ∷ 162 ∷ 229 ∷ 142 ∷ 133 ∷ 231 ∷ 129 ∷ 175 ∷ 32 ∷ 54 ∷ 52 ∷ 10 ∷
+    229 ∷ 142 ∷ 133 ∷ 231 ∷ 129 ∷ 175 ∷ 32 ∷ 54 ∷ 52 ∷ 10 ∷ []
+
+-- 甲 16, 乙 16, 甲乙 4, 丙 28
+abbrev pub tie : List ℕ
+tie =
+    231 ∷ 148 ∷ 178 ∷ 32 ∷ 49 ∷ 54 ∷ 10 ∷
+    228 ∷ 185 ∷ 153 ∷ 32 ∷ 49 ∷ 54 ∷ 10 ∷
+    231 ∷ 148 ∷ 178 ∷ 228 ∷ 185 ∷ 153 ∷ 32 ∷ 52 ∷ 10 ∷
+    228 ∷ 184 ∷ 153 ∷ 32 ∷ 50 ∷ 56 ∷ 10 ∷ []
+
+-- 甲 16, 乙 16, 甲乙 3, 丙 29
+abbrev pub noTie : List ℕ
+noTie =
+    231 ∷ 148 ∷ 178 ∷ 32 ∷ 49 ∷ 54 ∷ 10 ∷
+    228 ∷ 185 ∷ 153 ∷ 32 ∷ 49 ∷ 54 ∷ 10 ∷
+    231 ∷ 148 ∷ 178 ∷ 228 ∷ 185 ∷ 153 ∷ 32 ∷ 51 ∷ 10 ∷
+    228 ∷ 184 ∷ 153 ∷ 32 ∷ 50 ∷ 57 ∷ 10 ∷ []
+
+-- 甲 0, 甲乙 0
+abbrev pub totalZero : List ℕ
+totalZero =
+    231 ∷ 148 ∷ 178 ∷ 32 ∷ 48 ∷ 10 ∷
+    231 ∷ 148 ∷ 178 ∷ 228 ∷ 185 ∷ 153 ∷ 32 ∷ 48 ∷ 10 ∷ []
+
+-- the same with 丙 1
+abbrev pub totalOne : List ℕ
+totalOne =
+    231 ∷ 148 ∷ 178 ∷ 32 ∷ 48 ∷ 10 ∷
+    231 ∷ 148 ∷ 178 ∷ 228 ∷ 185 ∷ 153 ∷ 32 ∷ 48 ∷ 10 ∷
+    228 ∷ 184 ∷ 153 ∷ 32 ∷ 49 ∷ 10 ∷ []
+
+abbrev pub StarredCuts : Type 0
+StarredCuts =
+    -- A, 打开灯: 打开 灯
+    Cut bookA (230 ∷ 137 ∷ 147 ∷ 229 ∷ 188 ∷ 128 ∷ 231 ∷ 129 ∷ 175 ∷ []) (0 ∷ 2 ∷ 0 ∷ 6 ∷ 2 ∷ 3 ∷ 6 ∷ 9 ∷ [])
+    -- A, 打开客厅灯: 打开 客厅灯
+    × Cut bookA (230 ∷ 137 ∷ 147 ∷ 229 ∷ 188 ∷ 128 ∷ 229 ∷ 174 ∷ 162 ∷ 229 ∷ 142 ∷ 133 ∷ 231 ∷ 129 ∷ 175 ∷ []) (0 ∷ 2 ∷ 0 ∷ 6 ∷ 2 ∷ 5 ∷ 6 ∷ 15 ∷ [])
+    -- A, all, 打开客厅灯: 打 打开 开 客厅 客厅灯 厅灯 灯
+    × CutAll bookA (230 ∷ 137 ∷ 147 ∷ 229 ∷ 188 ∷ 128 ∷ 229 ∷ 174 ∷ 162 ∷ 229 ∷ 142 ∷ 133 ∷ 231 ∷ 129 ∷ 175 ∷ []) (0 ∷ 1 ∷ 0 ∷ 3 ∷ 0 ∷ 2 ∷ 0 ∷ 6 ∷ 1 ∷ 2 ∷ 3 ∷ 6 ∷ 2 ∷ 4 ∷ 6 ∷ 12 ∷ 2 ∷ 5 ∷ 6 ∷ 15 ∷ 3 ∷ 5 ∷ 9 ∷ 15 ∷ 4 ∷ 5 ∷ 12 ∷ 15 ∷ [])
+    -- 甲乙, the tie: one token
+    × Cut tie (231 ∷ 148 ∷ 178 ∷ 228 ∷ 185 ∷ 153 ∷ []) (0 ∷ 2 ∷ 0 ∷ 6 ∷ [])
+    -- 甲乙, no tie: two
+    × Cut noTie (231 ∷ 148 ∷ 178 ∷ 228 ∷ 185 ∷ 153 ∷ []) (0 ∷ 1 ∷ 0 ∷ 3 ∷ 1 ∷ 2 ∷ 3 ∷ 6 ∷ [])
+    -- 甲乙, total 0: 甲 乙
+    × Cut totalZero (231 ∷ 148 ∷ 178 ∷ 228 ∷ 185 ∷ 153 ∷ []) (0 ∷ 1 ∷ 0 ∷ 3 ∷ 1 ∷ 2 ∷ 3 ∷ 6 ∷ [])
+    -- 甲乙, total 1: 甲乙
+    × Cut totalOne (231 ∷ 148 ∷ 178 ∷ 228 ∷ 185 ∷ 153 ∷ []) (0 ∷ 2 ∷ 0 ∷ 6 ∷ [])
+    -- the empty book, ab-1 CR LF !: ab, -, 1, CR LF, !
+    × Cut [] (97 ∷ 98 ∷ 45 ∷ 49 ∷ 13 ∷ 10 ∷ 33 ∷ []) (0 ∷ 2 ∷ 0 ∷ 2 ∷ 2 ∷ 3 ∷ 2 ∷ 3 ∷ 3 ∷ 4 ∷ 3 ∷ 4 ∷ 4 ∷ 6 ∷ 4 ∷ 6 ∷ 6 ∷ 7 ∷ 6 ∷ 7 ∷ [])

@@ -1,0 +1,105 @@
+-- Tokens: document 01, "Tokens: `cut_route`, `cut_all`, `cut_for_search`", up to search.
+-- A span is a stretch of a block's characters, counted from the block's start; a token is a span with its offsets in the sentence.
+-- Assumes nothing.
+use Prim.Native.Nat.{ℕ, zero, suc, _+_, _*_, _/_}
+use mathlib.Core.Bool.{Bool, true, false, cond, _&&_}
+use mathlib.Core.List.{List, [], _∷_}
+use lib.Dec.{eqb, ltb}
+use lib.Ieee.{nan}
+use lib.ListN.{length, getD, take}
+use lib.Seq.{sets}
+use Rattle.classes.specs.Blocks.{asciiLetterOrDigit}
+use Rattle.classes.specs.Tokens.{joins}
+use Rattle.utf8.specs.Encoding.{byteLength}
+use Rattle.route.specs.Route.{Best}
+use Rattle.cuts.specs.declared.Token.{Token}
+
+pub record Span : Type 0 where
+  pub start : ℕ
+  pub end : ℕ
+
+abbrev pub span : ℕ → ℕ → Span
+span a b = record { start = a; end = b }
+
+-- ---- the route's steps
+
+-- from a position to the block's end, of n characters; each step goes on by one or more
+unfoldable pub stepsFrom : ℕ → List Best → ℕ → ℕ → List Span
+stepsFrom zero route n at = []
+stepsFrom (suc fuel) route n at =
+    let end : ℕ = getD route at (record { score = nan; end = 0 }) .end in
+    elim (ltb at n) [ true ↦ span at end ∷ stepsFrom fuel route n end | false ↦ [] ]
+
+-- a span, and whether it is a run that joins with one before it
+pub record Piece : Type 0 where
+  pub place : Span
+  pub joining : Bool
+
+abbrev pub beforePieces : Span → Bool → List Piece → List Piece
+beforePieces s joining [] = record { place = s; joining = joining } ∷ []
+beforePieces s joining (p ∷ ps) =
+    cond (joining && p .joining) (record { place = span (s .start) (p .place .end); joining = true } ∷ ps) (record { place = s; joining = joining } ∷ p ∷ ps)
+
+-- neighbouring spans that join are one
+unfoldable pub piecesOf : (Span → Bool) → List Span → List Piece
+piecesOf joining [] = []
+piecesOf joining (s ∷ ss) = beforePieces s (joining s) (piecesOf joining ss)
+
+abbrev pub placesOf : List Piece → List Span
+placesOf [] = []
+placesOf (p ∷ ps) = p .place ∷ placesOf ps
+
+unfoldable pub joined : (Span → Bool) → List Span → List Span
+joined joining ss = placesOf (piecesOf joining ss)
+
+-- "Route steps of one ASCII letter or digit join; others stand singly."
+abbrev pub loneLetter : List ℕ → Span → Bool
+loneLetter chars s = eqb (s .end) (s .start + 1) && asciiLetterOrDigit (getD chars (s .start) 0)
+
+unfoldable pub cutRoute : List ℕ → List Best → List Span
+cutRoute chars route = joined (loneLetter chars) (stepsFrom (length chars) route (length chars) 0)
+
+-- ---- outside the class
+
+-- "Outside the class each character is a token, CR LF one."
+unfoldable pub singly : ℕ → List ℕ → List Span
+singly at [] = []
+singly at (c ∷ []) = span at (at + 1) ∷ []
+singly at (c ∷ d ∷ cs) =
+    elim (eqb c 0x0D && eqb d 0x0A) [ true ↦ span at (at + 2) ∷ singly (at + 2) cs | false ↦ span at (at + 1) ∷ singly (at + 1) (d ∷ cs) ]
+
+-- `cut_all`: "elsewhere maximal runs of ASCII letters, digits, + # LF, all else singly"
+abbrev pub each : ℕ → List ℕ → List Span
+each at [] = []
+each at (c ∷ cs) = span at (at + 1) ∷ each (at + 1) cs
+
+unfoldable pub runsOf : List ℕ → List Span
+runsOf chars = joined (λ s. joins (getD chars (s .start) 0)) (each 0 chars)
+
+-- ---- tokens
+
+-- "Character offsets count scalar values, byte offsets count UTF-8 bytes, and a token has a start and end in each": of a span in a block that
+-- starts at the given offsets
+unfoldable pub tokenOf : ℕ → ℕ → List ℕ → Span → Token
+tokenOf charBase byteBase chars s = record {
+  chars = record { 0 = charBase + s .start; 1 = charBase + s .end };
+  bytes = record { 0 = byteBase + byteLength (take (s .start) chars); 1 = byteBase + byteLength (take (s .end) chars) };
+}
+
+-- the numbers that a token takes in the token area, and how many
+abbrev pub numbersOf : Token → List ℕ
+numbersOf t = t .chars .0 ∷ t .chars .1 ∷ t .bytes .0 ∷ t .bytes .1 ∷ []
+
+abbrev pub tokenWidth : ℕ
+tokenWidth = 4
+
+-- the tokens written so far, and the token area
+pub record Written : Type 0 where
+  pub count : ℕ
+  pub area : List ℕ
+
+abbrev pub hasPlace : Written → Bool
+hasPlace w = ltb (w .count) (length (w .area) / tokenWidth)
+
+abbrev pub put : Written → Token → Written
+put w t = record { count = w .count + 1; area = sets (w .area) (w .count * tokenWidth) (numbersOf t) }
