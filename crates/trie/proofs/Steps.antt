@@ -3,7 +3,7 @@
 -- Assumes nothing.
 use Prim.Native.Nat.{ℕ, _-_, _+_, _*_, _/_, _%_, _^_, _<_}
 use mathlib.Core.Path.{_≡_, refl, sym, ap, _∙_}
-use mathlib.Core.Bool.{Bool, true, false, not}
+use mathlib.Core.Bool.{Bool, true, false, not, _&&_}
 use mathlib.Core.List.{List}
 use native.Mathlib.Nat.{pow-suc}
 use native.Mathlib.Omega.{arith}
@@ -51,13 +51,6 @@ child-bit-below ch bit e = rw e (child-bit-range ch .1)
 pub bit-there : (l : List ℕ) (i bit : ℕ) → i < length l → hasBit (getD (set l i (withBit (getD l i 0) bit)) i 0) bit ≡ true
 bit-there l i bit h = let same = getD-set-same l i (withBit (getD l i 0) bit) 0 h in rw same (sets-its-bit (getD l i 0) bit)
 
-pub sets-tested-bits : SetsTestedBits
-unfolding withBits bitsAt
-sets-tested-bits t ch i = (
-  bit-there (t .rootChildren) i (childBit ch),
-  λ h k. rw (bit-there (t .keys) i (keyBit ch) h) (bit-there (t .children) i (childBit ch) k),
-)
-
 -- ---- places
 
 pub steps-from-slot : StepsFromSlot
@@ -77,6 +70,18 @@ ones-have-bit n inside =
 pub steps-from-root-entry : StepsFromRootEntry
 unfolding testedStep bitsAt openStep fromRoot nodeAt stepFrom
 steps-from-root-entry t i ch = rw (ones-have-bit (keyBit ch) (key-bit-range ch .1), stepFrom)
+
+-- ---- what an insertion sets is what a lookup tests
+
+and-true : (a b : Bool) → a ≡ true → b ≡ true → (a && b) ≡ true
+and-true a b h k = rw h k
+
+pub sets-tested-bits : SetsTestedBits
+unfolding withBits bitsAt
+sets-tested-bits t ch i = (
+  bit-there (t .rootChildren) i (childBit ch),
+  λ h k. and-true _ _ (bit-there (t .keys) i (keyBit ch) h) (bit-there (t .children) i (childBit ch) k),
+)
 
 -- ---- a step as the code takes it: the probe, after the key's bit and the child's bit
 
