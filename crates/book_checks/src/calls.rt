@@ -93,7 +93,7 @@ pub fn add(
     word: &[u8],
     frequency: u64,
 ) -> Answer {
-    let added = dict::add_word(
+    let added = addition::add_word(
         head,
         root_children,
         root_words,
@@ -124,7 +124,7 @@ pub fn look_up(
     logarithms: &[f64],
     word: &[u8],
 ) -> Reply {
-    match dict::lookup(
+    match lookup::lookup(
         head,
         root_children,
         root_words,

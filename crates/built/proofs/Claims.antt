@@ -104,7 +104,7 @@ bits-hide-nothing b ledger by word p c s sc e =
 
 -- ---- two books
 
-same-words : (ledger ledger′ : List Entry) (cs read : List ℕ) (at : ℕ) → ((n : ℕ) → frequencyIn ledger (read ++ take (suc n) cs) ≡ frequencyIn ledger′ (read ++ take (suc n) cs))
+pub same-words : (ledger ledger′ : List Entry) (cs read : List ℕ) (at : ℕ) → ((n : ℕ) → frequencyIn ledger (read ++ take (suc n) cs) ≡ frequencyIn ledger′ (read ++ take (suc n) cs))
     → wordsAfter ledger read at cs ≡ wordsAfter ledger′ read at cs
 unfolding wordsAfter
 same-words ledger ledger′ [] read at same = refl

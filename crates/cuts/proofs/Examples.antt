@@ -1,4 +1,4 @@
--- Document 01's starred examples of `cut` and `cut_all`, by computation.
+-- Document 01's starred examples, by computation.
 -- Assumes nothing.
 use mathlib.Core.Path.{refl}
 use lib.Count.{leadingZeros}
@@ -10,7 +10,7 @@ use Rattle.lines.specs.Lines.{linesOf, meaningOf, fieldsOf, pieces, frequencyOf
 use Rattle.classes.specs.WhiteSpace.{whiteSpace}
 use Rattle.classes.specs.Ranges.{inRanges}
 use Rattle.classes.specs.Blocks.{cutClass, han, hanMain, hanExtension, asciiLetterOrDigit, cutSign}
-use Rattle.classes.specs.Tokens.{joins}
+use Rattle.classes.specs.Tokens.{joins, connector, asciiLetter}
 use Rattle.trie.specs.Trie.{getOf, walk, wordAt, wordNumber, testedStep, openStep, bitsAt, fromRoot, nodeAt, probeOf, probeFrom, nextSlot, startSlot, log2, keyOf, filterHash, keyBit, childBit, reach, newSlots, withBits, withWord, emptyFrom, emptySlot, extend, insert}
 use Rattle.trie.specs.SlotCounts.{slotCount}
 use Rattle.arith.specs.Bits.{hasBit, withBit}
@@ -19,13 +19,18 @@ use Rattle.book.specs.Enter.{decide, emptySlots, replaced, inserted, loadLines,
 use Rattle.book.specs.Prefixes.{wordsFrom, walkOn}
 use Rattle.score.specs.Logarithm.{logFloat, L, logOf, highestOne, significand, nextBit, nextSignificand, bitsOf}
 use Rattle.score.specs.Scores.{floatOf}
+use Rattle.score.proofs.Logarithm.{starred-logarithms}
 use Rattle.route.specs.Route.{choose, routeOf}
 use Rattle.cuts.specs.Blocks.{blocksOf}
 use Rattle.cuts.specs.Edges.{walksOf, edgesWithin}
-use Rattle.cuts.specs.Tokens.{stepsFrom, piecesOf, joined, cutRoute, singly, runsOf, tokenOf}
-use Rattle.cuts.specs.Cuts.{putSpans, putWalks, cutBlocks, cutOf, cutAllOf}
-use Rattle.cuts.specs.Examples.{StarredCuts}
+use Rattle.cuts.specs.Tokens.{stepsFrom, piecesOf, joined, cutRoute, singly, runsOf, parts, partsOf, wordsOfSize, searched, tokenOf}
+use Rattle.cuts.specs.Cuts.{putSpans, putWalks, cutBlock, searchBlock, cutAllBlock, cutBlocks, cutWith, cutOf, cutAllOf, cutForSearchOf}
+use Rattle.cuts.specs.Examples.{StarredExamples, SearchExamples}
 
-pub starred-cuts : StarredCuts
-unfolding charsOf charsWithin readFrom byteLength encode linesOf meaningOf fieldsOf pieces frequencyOf number whiteSpace inRanges cutClass han hanMain hanExtension asciiLetterOrDigit cutSign joins getOf walk wordAt wordNumber testedStep openStep bitsAt fromRoot nodeAt probeOf probeFrom nextSlot startSlot log2 keyOf filterHash keyBit childBit reach newSlots withBits withWord emptyFrom emptySlot extend insert slotCount hasBit withBit allowed headDamaged emptyBook lookupOf decide emptySlots replaced inserted loadLines loadOf wordsFrom walkOn logFloat L logOf highestOne significand nextBit nextSignificand bitsOf floatOf blocksOf walksOf edgesWithin choose routeOf stepsFrom piecesOf joined cutRoute singly runsOf tokenOf putSpans putWalks cutBlocks cutOf cutAllOf leadingZeros span climb size odd units round neg sum add sub lt eq ofInt whole
-starred-cuts = (refl, refl, refl, refl, refl, refl, refl, refl)
+pub starred-examples : StarredExamples
+unfolding charsOf charsWithin readFrom byteLength encode linesOf meaningOf fieldsOf pieces frequencyOf number whiteSpace inRanges cutClass han hanMain hanExtension asciiLetterOrDigit cutSign joins connector asciiLetter getOf walk wordAt wordNumber testedStep openStep bitsAt fromRoot nodeAt probeOf probeFrom nextSlot startSlot log2 keyOf filterHash keyBit childBit reach newSlots withBits withWord emptyFrom emptySlot extend insert slotCount hasBit withBit allowed headDamaged emptyBook lookupOf decide emptySlots replaced inserted loadLines loadOf wordsFrom walkOn logFloat L logOf highestOne significand nextBit nextSignificand bitsOf floatOf blocksOf walksOf edgesWithin choose routeOf stepsFrom piecesOf joined cutRoute singly runsOf parts partsOf wordsOfSize searched tokenOf putSpans putWalks cutBlock searchBlock cutAllBlock cutBlocks cutWith cutOf cutAllOf cutForSearchOf leadingZeros span climb size odd units round neg sum add sub lt eq ofInt whole
+starred-examples = (starred-logarithms, refl, refl, refl, refl, refl, refl, refl, refl, refl, refl)
+
+pub search-examples : SearchExamples
+unfolding charsOf charsWithin readFrom byteLength encode linesOf meaningOf fieldsOf pieces frequencyOf number whiteSpace inRanges cutClass han hanMain hanExtension asciiLetterOrDigit cutSign joins connector asciiLetter getOf walk wordAt wordNumber testedStep openStep bitsAt fromRoot nodeAt probeOf probeFrom nextSlot startSlot log2 keyOf filterHash keyBit childBit reach newSlots withBits withWord emptyFrom emptySlot extend insert slotCount hasBit withBit allowed headDamaged emptyBook lookupOf decide emptySlots replaced inserted loadLines loadOf wordsFrom walkOn logFloat L logOf highestOne significand nextBit nextSignificand bitsOf floatOf blocksOf walksOf edgesWithin choose routeOf stepsFrom piecesOf joined cutRoute singly runsOf parts partsOf wordsOfSize searched tokenOf putSpans putWalks cutBlock searchBlock cutAllBlock cutBlocks cutWith cutOf cutAllOf cutForSearchOf leadingZeros span climb size odd units round neg sum add sub lt eq ofInt whole
+search-examples = (refl, refl)

@@ -1,2 +1,3 @@
 -- What is proved of the definitions of the cuts.
 pub mod Examples
+pub mod Sequence

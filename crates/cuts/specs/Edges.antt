@@ -10,10 +10,18 @@ use Rattle.book.specs.declared.Outcome.the-variants.{Damaged, EdgesFull}
 use Rattle.book.specs.Returns.{Book}
 use Rattle.book.specs.Prefixes.{Edge, Walked, wordsFrom}
 
+-- what a cut sees of a book: the words that start at a position, before the characters that follow it, and the total
+pub record Vocabulary : Type 0 where
+  pub words : ℕ → List ℕ → Walked
+  pub total : ℕ
+
+abbrev pub vocabularyOf : Book → Vocabulary
+vocabularyOf b = record { words = wordsFrom b; total = b .head .total }
+
 -- what the walk from each position of a block meets
-unfoldable pub walksOf : Book → ℕ → List ℕ → List Walked
-walksOf b at [] = []
-walksOf b at (c ∷ cs) = wordsFrom b at (c ∷ cs) ∷ walksOf b (at + 1) cs
+unfoldable pub walksOf : (ℕ → List ℕ → Walked) → ℕ → List ℕ → List Walked
+walksOf words at [] = []
+walksOf words at (c ∷ cs) = words at (c ∷ cs) ∷ walksOf words (at + 1) cs
 
 -- the edges of each position, or what stopped the walk
 pub data Edges : Type 0 where

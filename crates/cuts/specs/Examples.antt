@@ -1,16 +1,17 @@
--- Document 01's starred examples of `cut` and `cut_all`, as one statement. Each row starts at the empty book, loads a dictionary, cuts a
--- sentence into an area of as many places as there are tokens, and says each token's start and end in characters and in bytes.
+-- Document 01's starred examples, as one statement. The first row is L's. Each other row starts at the empty book, loads a dictionary, cuts a sentence
+-- into an area of as many places as there are tokens, and says each token's start and end in characters and in bytes.
 -- Texts are bytes, with what they read above them. Proof: `proofs/Examples.antt`.
 -- Assumes nothing.
 use Prim.Native.Nat.{ℕ, _/_}
 use mathlib.Core.List.{List, [], _∷_}
 use mathlib.Core.Path.{_≡_}
 use lib.ListN.{length, replicate}
+use Rattle.score.specs.Logarithm.{StarredLogarithms}
 use Rattle.book.specs.declared.Outcome.the-variants.{Done}
 use Rattle.book.specs.Returns.{Book, emptyBook}
 use Rattle.book.specs.Enter.{loadOf}
 use Rattle.cuts.specs.Tokens.{tokenWidth}
-use Rattle.cuts.specs.Cuts.{CutAnswer, answer, cutOf, cutAllOf}
+use Rattle.cuts.specs.Cuts.{CutAnswer, answer, cutOf, cutAllOf, cutForSearchOf}
 
 -- the book that a dictionary's text makes of the empty one: 1 root entry, 64 slots, 16 records
 abbrev pub loaded : List ℕ → Book
@@ -26,6 +27,9 @@ Cut text sentence numbers = cutOf (loaded text) 16 16 (replicate (length numbers
 
 abbrev pub CutAll : List ℕ → List ℕ → List ℕ → Type 0
 CutAll text sentence numbers = cutAllOf (loaded text) 16 (replicate (length numbers) 0) sentence ≡ allTokens numbers
+
+abbrev pub CutForSearch : List ℕ → List ℕ → List ℕ → Type 0
+CutForSearch text sentence numbers = cutForSearchOf (loaded text) 16 16 (replicate (length numbers) 0) sentence ≡ allTokens numbers
 
 -- book A: 打开 256, 开灯 256, 打 64, 开 64, 灯 128, 客厅 128, 客厅灯 64, 厅灯 64
 abbrev pub bookA : List ℕ
@@ -68,12 +72,22 @@ totalOne =
     231 ∷ 148 ∷ 178 ∷ 228 ∷ 185 ∷ 153 ∷ 32 ∷ 48 ∷ 10 ∷
     228 ∷ 184 ∷ 153 ∷ 32 ∷ 49 ∷ 10 ∷ []
 
-abbrev pub StarredCuts : Type 0
-StarredCuts =
+-- WES 1, WES-5.4.5 1
+abbrev pub compounds : List ℕ
+compounds =
+    87 ∷ 69 ∷ 83 ∷ 32 ∷ 49 ∷ 10 ∷
+    87 ∷ 69 ∷ 83 ∷ 45 ∷ 53 ∷ 46 ∷ 52 ∷ 46 ∷ 53 ∷ 32 ∷ 49 ∷ 10 ∷ []
+
+abbrev pub StarredExamples : Type 0
+StarredExamples =
+    -- L: 0 minus infinity, 1: 0, 2: 16777216, 3: 26591258, 4294967295: 536870911
+    StarredLogarithms
     -- A, 打开灯: 打开 灯
-    Cut bookA (230 ∷ 137 ∷ 147 ∷ 229 ∷ 188 ∷ 128 ∷ 231 ∷ 129 ∷ 175 ∷ []) (0 ∷ 2 ∷ 0 ∷ 6 ∷ 2 ∷ 3 ∷ 6 ∷ 9 ∷ [])
+    × Cut bookA (230 ∷ 137 ∷ 147 ∷ 229 ∷ 188 ∷ 128 ∷ 231 ∷ 129 ∷ 175 ∷ []) (0 ∷ 2 ∷ 0 ∷ 6 ∷ 2 ∷ 3 ∷ 6 ∷ 9 ∷ [])
     -- A, 打开客厅灯: 打开 客厅灯
     × Cut bookA (230 ∷ 137 ∷ 147 ∷ 229 ∷ 188 ∷ 128 ∷ 229 ∷ 174 ∷ 162 ∷ 229 ∷ 142 ∷ 133 ∷ 231 ∷ 129 ∷ 175 ∷ []) (0 ∷ 2 ∷ 0 ∷ 6 ∷ 2 ∷ 5 ∷ 6 ∷ 15 ∷ [])
+    -- A, search, 打开客厅灯: 打开 客厅 厅灯 客厅灯
+    × CutForSearch bookA (230 ∷ 137 ∷ 147 ∷ 229 ∷ 188 ∷ 128 ∷ 229 ∷ 174 ∷ 162 ∷ 229 ∷ 142 ∷ 133 ∷ 231 ∷ 129 ∷ 175 ∷ []) (0 ∷ 2 ∷ 0 ∷ 6 ∷ 2 ∷ 4 ∷ 6 ∷ 12 ∷ 3 ∷ 5 ∷ 9 ∷ 15 ∷ 2 ∷ 5 ∷ 6 ∷ 15 ∷ [])
     -- A, all, 打开客厅灯: 打 打开 开 客厅 客厅灯 厅灯 灯
     × CutAll bookA (230 ∷ 137 ∷ 147 ∷ 229 ∷ 188 ∷ 128 ∷ 229 ∷ 174 ∷ 162 ∷ 229 ∷ 142 ∷ 133 ∷ 231 ∷ 129 ∷ 175 ∷ []) (0 ∷ 1 ∷ 0 ∷ 3 ∷ 0 ∷ 2 ∷ 0 ∷ 6 ∷ 1 ∷ 2 ∷ 3 ∷ 6 ∷ 2 ∷ 4 ∷ 6 ∷ 12 ∷ 2 ∷ 5 ∷ 6 ∷ 15 ∷ 3 ∷ 5 ∷ 9 ∷ 15 ∷ 4 ∷ 5 ∷ 12 ∷ 15 ∷ [])
     -- 甲乙, the tie: one token
@@ -84,5 +98,28 @@ StarredCuts =
     × Cut totalZero (231 ∷ 148 ∷ 178 ∷ 228 ∷ 185 ∷ 153 ∷ []) (0 ∷ 1 ∷ 0 ∷ 3 ∷ 1 ∷ 2 ∷ 3 ∷ 6 ∷ [])
     -- 甲乙, total 1: 甲乙
     × Cut totalOne (231 ∷ 148 ∷ 178 ∷ 228 ∷ 185 ∷ 153 ∷ []) (0 ∷ 2 ∷ 0 ∷ 6 ∷ [])
+    -- WES 1, WES-5.4.5 1, search, WES-5.4.5: WES WES WES-5.4.5
+    × CutForSearch compounds (87 ∷ 69 ∷ 83 ∷ 45 ∷ 53 ∷ 46 ∷ 52 ∷ 46 ∷ 53 ∷ []) (0 ∷ 3 ∷ 0 ∷ 3 ∷ 0 ∷ 3 ∷ 0 ∷ 3 ∷ 0 ∷ 9 ∷ 0 ∷ 9 ∷ [])
     -- the empty book, ab-1 CR LF !: ab, -, 1, CR LF, !
     × Cut [] (97 ∷ 98 ∷ 45 ∷ 49 ∷ 13 ∷ 10 ∷ 33 ∷ []) (0 ∷ 2 ∷ 0 ∷ 2 ∷ 2 ∷ 3 ∷ 2 ∷ 3 ∷ 3 ∷ 4 ∷ 3 ∷ 4 ∷ 4 ∷ 6 ∷ 4 ∷ 6 ∷ 6 ∷ 7 ∷ 6 ∷ 7 ∷ [])
+
+-- ---- more of search, where the starred examples are silent
+
+-- 甲乙丙丁 9, 甲乙 1, 乙丙丁 1, 丁 1
+abbrev pub fourCharacters : List ℕ
+fourCharacters =
+    231 ∷ 148 ∷ 178 ∷ 228 ∷ 185 ∷ 153 ∷ 228 ∷ 184 ∷ 153 ∷ 228 ∷ 184 ∷ 129 ∷ 32 ∷ 57 ∷ 10 ∷
+    231 ∷ 148 ∷ 178 ∷ 228 ∷ 185 ∷ 153 ∷ 32 ∷ 49 ∷ 10 ∷
+    228 ∷ 185 ∷ 153 ∷ 228 ∷ 184 ∷ 153 ∷ 228 ∷ 184 ∷ 129 ∷ 32 ∷ 49 ∷ 10 ∷
+    228 ∷ 184 ∷ 129 ∷ 32 ∷ 49 ∷ 10 ∷ []
+
+-- a-bc_7.甲a 1
+abbrev pub parted : List ℕ
+parted = 97 ∷ 45 ∷ 98 ∷ 99 ∷ 95 ∷ 55 ∷ 46 ∷ 231 ∷ 148 ∷ 178 ∷ 97 ∷ 32 ∷ 49 ∷ 10 ∷ []
+
+abbrev pub SearchExamples : Type 0
+SearchExamples =
+    -- 甲乙丙丁: 甲乙, then 乙丙丁, then 甲乙丙丁
+    CutForSearch fourCharacters (231 ∷ 148 ∷ 178 ∷ 228 ∷ 185 ∷ 153 ∷ 228 ∷ 184 ∷ 153 ∷ 228 ∷ 184 ∷ 129 ∷ []) (0 ∷ 2 ∷ 0 ∷ 6 ∷ 1 ∷ 4 ∷ 3 ∷ 12 ∷ 0 ∷ 4 ∷ 0 ∷ 12 ∷ [])
+    -- a-bc_7.甲a: bc and 甲a, of which a counts as a letter; a is one byte, 7 has no letter; then itself
+    × CutForSearch parted (97 ∷ 45 ∷ 98 ∷ 99 ∷ 95 ∷ 55 ∷ 46 ∷ 231 ∷ 148 ∷ 178 ∷ 97 ∷ []) (2 ∷ 4 ∷ 2 ∷ 4 ∷ 7 ∷ 9 ∷ 7 ∷ 11 ∷ 0 ∷ 9 ∷ 0 ∷ 11 ∷ [])

@@ -3,4 +3,5 @@ pub mod Blocks
 pub mod Edges
 pub mod Tokens
 pub mod Cuts
+pub mod Slices
 pub mod Examples

@@ -1,15 +1,16 @@
--- Tokens: document 01, "Tokens: `cut_route`, `cut_all`, `cut_for_search`", up to search.
+-- Tokens: document 01, "Tokens: `cut_route`, `cut_all`, `cut_for_search`".
 -- A span is a stretch of a block's characters, counted from the block's start; a token is a span with its offsets in the sentence.
 -- Assumes nothing.
-use Prim.Native.Nat.{ℕ, zero, suc, _+_, _*_, _/_}
-use mathlib.Core.Bool.{Bool, true, false, cond, _&&_}
-use mathlib.Core.List.{List, [], _∷_}
-use lib.Dec.{eqb, ltb}
+use Prim.Native.Nat.{ℕ, zero, suc, _+_, _-_, _*_, _/_}
+use mathlib.Core.Bool.{Bool, true, false, cond, _&&_, _||_}
+use mathlib.Core.List.{List, [], _∷_, _++_}
+use lib.Dec.{eqb, leb, ltb}
 use lib.Ieee.{nan}
-use lib.ListN.{length, getD, take}
+use lib.ListN.{length, getD, take, drop}
 use lib.Seq.{sets}
 use Rattle.classes.specs.Blocks.{asciiLetterOrDigit}
-use Rattle.classes.specs.Tokens.{joins}
+use Rattle.classes.specs.Tokens.{joins, connector, asciiLetter}
+use Rattle.book.specs.Prefixes.{Edge}
 use Rattle.utf8.specs.Encoding.{byteLength}
 use Rattle.route.specs.Route.{Best}
 use Rattle.cuts.specs.declared.Token.{Token}
@@ -76,6 +77,53 @@ each at (c ∷ cs) = span at (at + 1) ∷ each (at + 1) cs
 unfoldable pub runsOf : List ℕ → List Span
 runsOf chars = joined (λ s. joins (getD chars (s .start) 0)) (each 0 chars)
 
+-- ---- search
+
+-- whether a test holds of one of them, and those of which it holds
+abbrev pub anyOf : {A : Type 0} → (A → Bool) → List A → Bool
+anyOf test [] = false
+anyOf test (x ∷ xs) = test x || anyOf test xs
+
+abbrev pub those : {A : Type 0} → (A → Bool) → List A → List A
+those test [] = []
+those test (x ∷ xs) = cond (test x) (x ∷ those test xs) (those test xs)
+
+-- the pieces of a span before, between and after its connectors: one that starts at a position, up to which this far is read
+unfoldable pub parts : ℕ → ℕ → List ℕ → List Span
+parts from at [] = span from at ∷ []
+parts from at (c ∷ cs) = elim (connector c) [ true ↦ span from at ∷ parts (at + 1) (at + 1) cs | false ↦ parts from (at + 1) cs ]
+
+abbrev pub charsBetween : List ℕ → Span → List ℕ
+charsBetween chars s = take (s .end - s .start) (drop (s .start) chars)
+
+-- "of at least 2 bytes with an ASCII letter"
+abbrev pub searchable : List ℕ → Bool
+searchable cs = leb 2 (byteLength cs) && anyOf asciiLetter cs
+
+-- "if it has . _ or -, its parts between them"
+unfoldable pub partsOf : List ℕ → Span → List Span
+partsOf chars s =
+    cond (anyOf connector (charsBetween chars s)) (those (λ p. searchable (charsBetween chars p)) (parts (s .start) (s .start) (charsBetween chars s))) []
+
+-- whether a held word starts at a position and ends at another: `word_at` of sparse_dag.rs
+abbrev pub heldBetween : List (List Edge) → Span → Bool
+heldBetween rows s = anyOf (λ (e : Edge). eqb (e .end) (s .end)) (getD rows (s .start) [])
+
+-- the stretches of so many characters that start at each of so many positions
+abbrev pub stretches : ℕ → ℕ → ℕ → List Span
+stretches size from zero = []
+stretches size from (suc count) = span from (from + size) ∷ stretches size (from + 1) count
+
+-- "if over 2 characters, its held 2-character words; if over 3, its held 3-character words"
+unfoldable pub wordsOfSize : ℕ → List (List Edge) → Span → List Span
+wordsOfSize size rows s =
+    cond (ltb size (s .end - s .start)) (those (heldBetween rows) (stretches size (s .start) (s .end - s .start + 1 - size))) []
+
+-- "Search, per token": the parts, the words, "then itself"
+unfoldable pub searched : List ℕ → List (List Edge) → List Span → List Span
+searched chars rows [] = []
+searched chars rows (s ∷ ss) = partsOf chars s ++ (wordsOfSize 2 rows s ++ (wordsOfSize 3 rows s ++ (s ∷ searched chars rows ss)))
+
 -- ---- tokens
 
 -- "Character offsets count scalar values, byte offsets count UTF-8 bytes, and a token has a start and end in each": of a span in a block that
@@ -97,6 +145,9 @@ tokenWidth = 4
 pub record Written : Type 0 where
   pub count : ℕ
   pub area : List ℕ
+
+abbrev pub written : ℕ → List ℕ → Written
+written count area = record { count = count; area = area }
 
 abbrev pub hasPlace : Written → Bool
 hasPlace w = ltb (w .count) (length (w .area) / tokenWidth)

@@ -1,4 +1,3 @@
 -- The laws that the functions' proofs cite.
-pub mod Lookups
 pub mod Lines
 pub mod Loads

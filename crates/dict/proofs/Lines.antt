@@ -2,7 +2,7 @@
 -- Assumes nothing.
 use mathlib.Core.Path.{_≡_, refl, sym, ap, _∙_}
 use mathlib.Core.List.{List}
-use mathlib.Core.Option.{Option, some, IsSome}
+use mathlib.Core.Option.{IsSome}
 use Prim.Native.Nat.{ℕ, _-_, _≤_}
 use native.Mathlib.Omega.{arith}
 use lib.ListN.{length, take, drop, length-take}
@@ -17,68 +17,48 @@ use Rattle.book.specs.declared.Outcome.the-variants.{Done}
 use Rattle.book.specs.Returns.{Book}
 use Rattle.entry.specs.Texts.{EnterAnswer, enterAnswer, enterText, enterMeaning, enterLine}
 
-module _ (line : List ℕ) where
-  -- what the line says, from what is said of it
-  by-meaning : (l : Line) (m : Meaning) → meaningOf line ≡ m → linePlaced (past whiteSpace 0 (charsOf line)) m ≡ l → lineOf line ≡ l
-  unfolding lineOf
-  by-meaning l m e f = rw e f
+-- what is answered, where it is known before the word enters
+abbrev answerTo : Book → List ℕ → Line → EnterAnswer
+answerTo b line Malformed = enterAnswer Outcome.Malformed b
+answerTo b line Blank = enterAnswer Done b
+answerTo b line BadFrequency = enterAnswer Outcome.BadFrequency b
+answerTo b line (Entry start end n) = enterLine b line
 
-  means-malformed : lineOf line ≡ Malformed → meaningOf line ≡ malformed
-  unfolding lineOf
-  means-malformed e = go (meaningOf line) refl
-    where
-      go : (m : Meaning) → meaningOf line ≡ m → meaningOf line ≡ malformed
-      go malformed q = q
-      go blank q = let f : Blank ≡ Malformed = rw q at e in let z : _≡_ {A = ℕ} 0 1 = cc in absurd (omega arith)
-      go badFrequency q = let f : BadFrequency ≡ Malformed = rw q at e in let z : _≡_ {A = ℕ} 0 1 = cc in absurd (omega arith)
-      go (entry w n) q = let f : linePlaced (past whiteSpace 0 (charsOf line)) (entry w n) ≡ Malformed = rw q at e in let z : _≡_ {A = ℕ} 0 1 = cc in absurd (omega arith)
+module _ (b : Book) (line : List ℕ) {l : Line} (parsed : l ≡ lineOf line) where
+  by-meaning : (start : ℕ) (m : Meaning) → meaningOf line ≡ m → answerTo b line (linePlaced start m) ≡ enterMeaning b m
+  unfolding enterLine
+  by-meaning start malformed e = refl
+  by-meaning start blank e = refl
+  by-meaning start badFrequency e = refl
+  by-meaning start (entry word n) e = rw e
 
-  means-blank : lineOf line ≡ Blank → meaningOf line ≡ blank
-  unfolding lineOf
-  means-blank e = go (meaningOf line) refl
-    where
-      go : (m : Meaning) → meaningOf line ≡ m → meaningOf line ≡ blank
-      go malformed q = let f : Malformed ≡ Blank = rw q at e in let z : _≡_ {A = ℕ} 0 1 = cc in absurd (omega arith)
-      go blank q = q
-      go badFrequency q = let f : BadFrequency ≡ Blank = rw q at e in let z : _≡_ {A = ℕ} 0 1 = cc in absurd (omega arith)
-      go (entry w n) q = let f : linePlaced (past whiteSpace 0 (charsOf line)) (entry w n) ≡ Blank = rw q at e in let z : _≡_ {A = ℕ} 0 1 = cc in absurd (omega arith)
+  by-line : answerTo b line l ≡ enterLine b line
+  unfolding lineOf enterLine
+  by-line = ap (answerTo b line) parsed ∙ by-meaning (past whiteSpace 0 (charsOf line)) (meaningOf line) refl
 
-  means-bad : lineOf line ≡ BadFrequency → meaningOf line ≡ badFrequency
-  unfolding lineOf
-  means-bad e = go (meaningOf line) refl
-    where
-      go : (m : Meaning) → meaningOf line ≡ m → meaningOf line ≡ badFrequency
-      go malformed q = let f : Malformed ≡ BadFrequency = rw q at e in let z : _≡_ {A = ℕ} 0 1 = cc in absurd (omega arith)
-      go blank q = let f : Blank ≡ BadFrequency = rw q at e in let z : _≡_ {A = ℕ} 0 1 = cc in absurd (omega arith)
-      go badFrequency q = q
-      go (entry w n) q = let f : linePlaced (past whiteSpace 0 (charsOf line)) (entry w n) ≡ BadFrequency = rw q at e in let z : _≡_ {A = ℕ} 0 1 = cc in absurd (omega arith)
+  pub line-malformed : l ≡ Malformed → enterAnswer Outcome.Malformed b ≡ enterLine b line
+  line-malformed e = rw e at by-line
 
-  module _ (b : Book) where
-    pub line-malformed : lineOf line ≡ Malformed → enterAnswer Outcome.Malformed b ≡ enterLine b line
-    unfolding enterLine
-    line-malformed e = rw (means-malformed e)
+  pub line-blank : l ≡ Blank → enterAnswer Done b ≡ enterLine b line
+  line-blank e = rw e at by-line
 
-    pub line-blank : lineOf line ≡ Blank → enterAnswer Done b ≡ enterLine b line
-    unfolding enterLine
-    line-blank e = rw (means-blank e)
+  pub line-bad : l ≡ BadFrequency → enterAnswer Outcome.BadFrequency b ≡ enterLine b line
+  line-bad e = rw e at by-line
 
-    pub line-bad : lineOf line ≡ BadFrequency → enterAnswer Outcome.BadFrequency b ≡ enterLine b line
-    unfolding enterLine
-    line-bad e = rw (means-bad e)
+-- the word of a line that has one
+module _ (line : List ℕ) {l : Line} (parsed : l ≡ lineOf line) {start end n : ℕ} (e : l ≡ Entry start end n) where
+  found : EntryFound line start end n
+  found = entry-found line start end n (sym parsed ∙ e)
 
-  module _ (start end n : ℕ) (e : lineOf line ≡ Entry start end n) where
-    found : EntryFound line start end n
-    found = entry-found line start end n e
+  pub word-inside : (start ≤ end) × (end ≤ length line)
+  word-inside = (found .order, found .inside)
 
-    pub part : (start ≤ end) × (end ≤ length line)
-    part = (found .order, found .inside)
+  pub word-chars : IsSome (charsOf (take (end - start) (drop start line)))
+  word-chars = rw (found .bytes) tt
 
-    pub part-chars : IsSome (charsOf (take (end - start) (drop start line)))
-    part-chars = rw (found .bytes) tt
+  pub word-short : (k : ℕ) → length line ≤ k → length (take (end - start) (drop start line)) ≤ k
+  word-short k h = let inside = found .inside in let order = found .order in omega (arith, length-take (end - start) (drop start line))
 
-    pub part-length : (k : ℕ) → length line ≤ k → length (take (end - start) (drop start line)) ≤ k
-    part-length k h = let l = found .inside in let o = found .order in omega (arith, length-take (end - start) (drop start line))
-
-    pub line-entry : (b : Book) (a : EnterAnswer) → a ≡ enterText b (charsOf (take (end - start) (drop start line))) n → a ≡ enterLine b line
-    unfolding enterLine enterText
-    line-entry b a q = q ∙ rw (found .bytes, found .means)
+  pub word-entered : (b : Book) {a : EnterAnswer} → a ≡ enterText b (charsOf (take (end - start) (drop start line))) n → a ≡ enterLine b line
+  unfolding enterLine enterText
+  word-entered b q = q ∙ rw (found .bytes, found .means)

@@ -1,83 +1,128 @@
--- A load, line by line from a position of the text on: each line's answer stops the load or goes on to the line after it.
+-- A load, line by line from a position of the text on: each line's answer stops the load or goes on to the line after it. The lines keep the lengths of
+-- all areas, so that the sizes are tested once.
 -- Assumes nothing.
 use mathlib.Core.Path.{_≡_, refl, sym, ap, _∙_}
-use mathlib.Core.Bool.{Bool, true, false, cond}
-use mathlib.Core.List.{List, [], _∷_}
+use mathlib.Core.Bool.{Bool, true, false, not}
+use mathlib.Core.List.{List}
 use Prim.Native.Nat.{ℕ, _+_, _-_, _<_, _≤_}
 use native.Mathlib.Nat.{le-of-lt}
 use native.Mathlib.Omega.{arith}
-use borrow.Author.Tests.{eq-eqb, ne-eqb, le-leb, lt-leb}
-use lib.Ieee.{Float}
-use lib.IntN.{ℤ}
+use borrow.Author.Tests.{not-true, not-false, eq-eqb, ne-eqb, le-leb, lt-leb}
 use lib.ListN.{length, take, drop, length-take, length-drop}
 use Rattle.lines.specs.Lines.{linesOf, lineEnd}
 use Rattle.lines.proofs.Ends.{lines-at, lines-end, end-bounds}
-use Rattle.book.specs.declared.Outcome.{Outcome}
+use Rattle.insert.specs.Claims.{SameLengths}
+use Rattle.insert.proofs.Lengths.{same-lengths, then-same}
 use Rattle.book.specs.declared.Outcome.the-variants.{Done, BadAreas, TooLong}
-use Rattle.book.specs.Returns.{Book, numberOf, isDone, allowed, sized, longestText}
+use Rattle.book.specs.Returns.{Book, numberOf, sized, longestText}
 use Rattle.book.specs.Enter.{LoadAnswer, loadStops, loadLines, loadOf}
 use Rattle.entry.specs.Texts.{EnterAnswer, enterLine}
 use Rattle.entry.proofs.Lines.{loadOn, load-line}
 use Rattle.dict.specs.Answers.{linesLoaded}
 
--- ---- one line
-
-module _ (b : Book) (n : ℕ) (text : List ℕ) (at : ℕ) where
-  pub all-read : length text ≤ at → loadStops Done n b ≡ linesLoaded b n text at
-  unfolding linesLoaded loadLines
-  all-read h = rw (lines-end text at h)
-
-  module _ (h : at < length text) (end : ℕ) (q : end ≡ lineEnd text at) (e : EnterAnswer) (f : e ≡ enterLine b (take (end - at) (drop at text))) where
-    one-line : loadOn e n (linesOf (drop (end + 1) text)) ≡ linesLoaded b n text at
-    unfolding linesLoaded
-    one-line =
-        load-line b n (take (end - at) (drop at text)) (linesOf (drop (end + 1) text)) e f
-        ∙ rw q (ap (loadLines b n) (sym (lines-at text at (le-of-lt h) h)))
-
-    pub stops : (numberOf (e .outcome) ≡ 0 → ⊥) → loadStops (e .outcome) (n + 1) (e .book) ≡ linesLoaded b n text at
-    stops z = sym (rw (ne-eqb (numberOf (e .outcome)) 0 z)) ∙ one-line
-
-    pub goes-on : numberOf (e .outcome) ≡ 0 → linesLoaded (e .book) (n + 1) text (end + 1) ≡ linesLoaded b n text at
-    unfolding linesLoaded
-    goes-on z = sym (rw (eq-eqb (numberOf (e .outcome)) 0 z)) ∙ one-line
-
--- the line's part of the text
-pub line-part : (text : List ℕ) (at end : ℕ) → at < length text → end ≡ lineEnd text at → (at ≤ end) × (end ≤ length text)
-line-part text at end h q = rw q (end-bounds text at (le-of-lt h))
-
-pub line-length : (text : List ℕ) (at end k : ℕ) → length text ≤ k → length (take (end - at) (drop at text)) ≤ k
-line-length text at end k h = omega (arith, length-take (end - at) (drop at text), length-drop at text)
-
 -- ---- the areas keep their lengths
 
-pub record SameLong (rc rc₀ : List ℕ) (rw' rw₀ : List ℤ) (k k₀ c c₀ : List ℕ) (w w₀ : List ℤ) (f f₀ : List ℕ) (l l₀ : List Float) : Type 0 where
-  pub root-children : length rc ≡ length rc₀
-  pub root-words : length rw' ≡ length rw₀
-  pub keys : length k ≡ length k₀
-  pub children : length c ≡ length c₀
-  pub words : length w ≡ length w₀
-  pub frequencies : length f ≡ length f₀
-  pub logarithms : length l ≡ length l₀
+pub record SameLong (b c : Book) : Type 0 where
+  pub tables : SameLengths (b .trie) (c .trie)
+  pub frequencies : length (b .frequencies) ≡ length (c .frequencies)
+  pub logarithms : length (b .logarithms) ≡ length (c .logarithms)
 
-pub still-allowed : (rc rc₀ : List ℕ) (rw' rw₀ : List ℤ) (k k₀ c c₀ : List ℕ) (w w₀ : List ℤ) (f f₀ : List ℕ) (l l₀ : List Float)
-    → SameLong rc rc₀ rw' rw₀ k k₀ c c₀ w w₀ f f₀ l l₀
-    → allowed (length rc₀) (length rw₀) (length k₀) (length c₀) (length w₀) (length f₀) (length l₀) ≡ true
-    → allowed (length rc) (length rw') (length k) (length c) (length w) (length f) (length l) ≡ true
-still-allowed rc rc₀ rw' rw₀ k k₀ c c₀ w w₀ f f₀ l l₀ s e =
-    rw (s .root-children, s .root-words, s .keys, s .children, s .words, s .frequencies, s .logarithms) e
+then-long : {b c d : Book} → SameLong b c → SameLong c d → SameLong b d
+then-long s t = record {
+  tables = then-same (s .tables) (t .tables);
+  frequencies = s .frequencies ∙ t .frequencies;
+  logarithms = s .logarithms ∙ t .logarithms;
+}
+
+-- what a call on a head, seven areas and more keeps
+abbrev Kept : Book → Book → Type 0 → Type 0
+Kept b c R =
+    Unit {0}
+    × ((length (b .trie .rootChildren) ≡ length (c .trie .rootChildren))
+    × ((length (b .trie .rootWords) ≡ length (c .trie .rootWords))
+    × ((length (b .trie .keys) ≡ length (c .trie .keys))
+    × ((length (b .trie .children) ≡ length (c .trie .children))
+    × ((length (b .trie .words) ≡ length (c .trie .words))
+    × ((length (b .frequencies) ≡ length (c .frequencies))
+    × ((length (b .logarithms) ≡ length (c .logarithms))
+    × R)))))))
+
+pub kept-long : (b c : Book) {R : Type 0} → Kept b c R → SameLong b c
+kept-long b c k =
+    let tables = k .1 in
+    let records = tables .1 .1 .1 .1 .1 in
+    record {
+      tables = record { rootChildren = tables .0; rootWords = tables .1 .0; keys = tables .1 .1 .0; children = tables .1 .1 .1 .0; words = tables .1 .1 .1 .1 .0 };
+      frequencies = records .0;
+      logarithms = records .1 .0;
+    }
+
+pub still-sized : {b c : Book} → SameLong b c → sized c ≡ true → sized b ≡ true
+still-sized s e =
+    rw (s .tables .rootChildren, s .tables .rootWords, s .tables .keys, s .tables .children, s .tables .words, s .frequencies, s .logarithms) e
+
+-- ---- the lines
+
+-- before a line: so many lines have been read, up to a position, and what the lines from there on come to is what the whole text comes to
+pub record Loading (b₀ : Book) (text : List ℕ) (b : Book) (n at : ℕ) : Type 0 where
+  pub long : SameLong b b₀
+  pub same : linesLoaded b n text at ≡ linesLoaded b₀ 0 text 0
+  pub counted : n ≤ at
+  pub inside : at ≤ length text + 1
+
+pub begins : (b : Book) (text : List ℕ) → Loading b text b 0 0
+begins b text = record { long = record { tables = same-lengths (b .trie); frequencies = refl; logarithms = refl }; same = refl; counted = omega arith; inside = omega arith }
+
+module _ {b₀ : Book} {text : List ℕ} {b : Book} {n at : ℕ} (turn : Loading b₀ text b n at) where
+  pub ends : length text ≤ at → loadStops Done n b ≡ linesLoaded b₀ 0 text 0
+  unfolding linesLoaded loadLines
+  ends h = all-read ∙ turn .same
+    where
+      all-read : loadStops Done n b ≡ linesLoaded b n text at
+      all-read = rw (lines-end text at h)
+
+  module _ (h : at < length text) {end : ℕ} (q : end ≡ lineEnd text at) where
+    pub line-inside : (at ≤ end) × (end ≤ length text)
+    line-inside = rw q (end-bounds text at (le-of-lt h))
+
+    pub line-short : {k : ℕ} → length text ≤ k → length (take (end - at) (drop at text)) ≤ k
+    line-short l = omega (arith, length-take (end - at) (drop at text), length-drop at text)
+
+    module _ {e : EnterAnswer} (f : e ≡ enterLine b (take (end - at) (drop at text))) where
+      one-line : loadOn e n (linesOf (drop (end + 1) text)) ≡ linesLoaded b n text at
+      unfolding linesLoaded
+      one-line =
+          load-line b n (take (end - at) (drop at text)) (linesOf (drop (end + 1) text)) e f
+          ∙ rw q (ap (loadLines b n) (sym (lines-at text at (le-of-lt h) h)))
+
+      module _ {number : ℕ} (numbered : number ≡ numberOf (e .outcome)) where
+        pub stops : (number ≡ 0 → ⊥) → loadStops (e .outcome) (n + 1) (e .book) ≡ linesLoaded b₀ 0 text 0
+        stops z = sym (rw (sym numbered, ne-eqb number 0 z)) ∙ one-line ∙ turn .same
+
+        pub goes-on : number ≡ 0 → SameLong (e .book) b → Loading b₀ text (e .book) (n + 1) (end + 1)
+        unfolding linesLoaded
+        goes-on z long = record {
+          long = then-long long (turn .long);
+          same = rest ∙ turn .same;
+          counted = let l = line-inside in let k = turn .counted in omega arith;
+          inside = let l = line-inside in omega arith;
+        }
+          where
+            rest : linesLoaded (e .book) (n + 1) text (end + 1) ≡ linesLoaded b n text at
+            rest = sym (rw (sym numbered, eq-eqb number 0 z)) ∙ one-line
 
 -- ---- the tests before the lines
 
-module _ (b : Book) (text : List ℕ) where
-  pub load-areas : sized b ≡ false → loadStops BadAreas 0 b ≡ loadOf b text
+module _ (b : Book) (text : List ℕ) {r : Bool} (areas : r ≡ sized b) where
+  pub areas-refused : not r ≡ true → loadStops BadAreas 0 b ≡ loadOf b text
   unfolding loadOf
-  load-areas h = rw h
+  areas-refused n = rw (sym areas, not-true r n)
 
-  module _ (s : sized b ≡ true) where
-    pub load-long : longestText < length text → loadStops TooLong 0 b ≡ loadOf b text
+  module _ (n : not r ≡ false) where
+    pub too-long : longestText < length text → loadStops TooLong 0 b ≡ loadOf b text
     unfolding loadOf
-    load-long l = rw (s, lt-leb (length text) longestText l)
+    too-long l = rw (sym areas, not-false r n, lt-leb (length text) longestText l)
 
-    pub load-all : length text ≤ longestText → linesLoaded b 0 text 0 ≡ loadOf b text
+    pub all-loaded : length text ≤ longestText → {a : LoadAnswer} → a ≡ linesLoaded b 0 text 0 → a ≡ loadOf b text
     unfolding loadOf linesLoaded
-    load-all l = rw (s, le-leb (length text) longestText l)
+    all-loaded l e = e ∙ rw (sym areas, not-false r n, le-leb (length text) longestText l)

@@ -1,4 +1,4 @@
--- Answers with the areas as they are left, in the form of document 01's definitions.
+-- What a load answers, with the areas as they are left, in the form of document 01's definitions.
 -- Assumes nothing.
 use Prim.Native.Nat.{ℕ}
 use mathlib.Core.List.{List}
@@ -8,12 +8,8 @@ use Rattle.lines.specs.Lines.{linesOf}
 use Rattle.trie.specs.Trie.{CharTrie}
 use Rattle.book.specs.Areas.{bookOf}
 use Rattle.book.specs.Returns.{Book}
-use Rattle.book.specs.Enter.{AddAnswer, LoadAnswer, loadLines}
-use Rattle.dict.specs.declared.Added.{Added}
+use Rattle.book.specs.Enter.{LoadAnswer, loadLines}
 use Rattle.dict.specs.declared.Loaded.{Loaded}
-
-abbrev pub added : Added → CharTrie → List ℕ → List Float → AddAnswer
-added r trie frequencies logarithms = record { outcome = r .outcome; frequency = r .frequency; book = bookOf (r .head) trie frequencies logarithms }
 
 abbrev pub loaded : Loaded → CharTrie → List ℕ → List Float → LoadAnswer
 loaded r trie frequencies logarithms = record { outcome = r .outcome; line = r .line; book = bookOf (r .head) trie frequencies logarithms }

@@ -1,86 +1,21 @@
-//! Books: looking up a word, adding one, and loading a dictionary (lib.rs).
+//! Loading a dictionary into a book, line by line (lib.rs, `load_dict`).
 //!
-//! The Rust keeps its tables in `Jieba`, and grows them. Here a book is seven lent slices and a head by value, which goes in and
-//! comes back with the answer. Every call tests the sizes of what it is lent, and nothing is required of the caller.
+//! The Rust grows its tables. Here a book is seven lent slices and a head by value, which goes in and comes back with the
+//! answer. The sizes of what is lent are tested, and nothing is required of the caller.
 ghost use mathlib.Core.Path.{_≡_};
 ghost use mathlib.Core.Bool.{true};
 ghost use Prim.Native.Nat.{_-_, _≤_};
 ghost use lib.ListN.{length};
 ghost use Rattle.trie.specs.Trie.{trieOf, log2};
 ghost use Rattle.book.specs.Areas.{bookOf};
-ghost use Rattle.book.specs.Returns.{longestText, allowed, lookupOf};
-ghost use Rattle.book.specs.Enter.{addOf, loadOf};
+ghost use Rattle.book.specs.Returns.{longestText, allowed};
+ghost use Rattle.book.specs.Enter.{loadOf};
 ghost use Rattle.entry.specs.Texts.{enterLine, entered};
-ghost use Rattle.dict.specs.Answers.{added, loaded, linesLoaded};
-use book::Found;
+ghost use Rattle.dict.specs.Answers.{loaded, linesLoaded};
 use book::Head;
 use book::Outcome;
 use entry::Entered;
 use lines::Line;
-use trie::Got;
-use utf8::CharCount;
-
-// The frequency of a word.
-pub fn lookup(
-    head: Head,
-    root_children: &[u32],
-    root_words: &[i32],
-    keys: &[u64],
-    children: &[u32],
-    words: &[i32],
-    frequencies: &[u32],
-    logarithms: &[f64],
-    word: &[u8],
-) -> Found
-    ensures { λ r. ⌜ r ≡ lookupOf (bookOf head (trieOf (now («root_children» .entry)) (now («root_words» .entry)) (now (keys .entry)) (now (children .entry)) (now (words .entry))) (now (frequencies .entry)) (now (logarithms .entry))) (now (word .entry)) ⌝ }
-{
-    if !book::is_allowed(
-        root_children.len(),
-        root_words.len(),
-        keys.len(),
-        children.len(),
-        words.len(),
-        frequencies.len(),
-        logarithms.len(),
-    ) {
-        return Found::NotLookedUp(Outcome::BadAreas);
-    }
-    if book::LONGEST_TEXT < word.len() {
-        return Found::NotLookedUp(Outcome::TooLong);
-    }
-    let CharCount::Chars(count) = utf8::char_count(word) else {
-        return Found::NotLookedUp(Outcome::Malformed);
-    };
-    if count == 0 {
-        return Found::Absent;
-    }
-    if book::is_head_damaged(head, frequencies.len(), keys.len()) {
-        return Found::NotLookedUp(Outcome::Damaged);
-    }
-    let shift = trie::shift_of(keys.len());
-    let used = head.records as usize;
-    match walk::get(
-        root_children,
-        root_words,
-        keys,
-        children,
-        words,
-        shift,
-        used,
-        word,
-    ) {
-        Got::Held(n) => Found::Frequency(frequencies[n]),
-        Got::Absent => Found::Absent,
-        Got::Damaged => Found::NotLookedUp(Outcome::Damaged),
-    }
-}
-
-// What an addition answers.
-pub struct Added {
-    pub outcome: Outcome,
-    pub frequency: u64,
-    pub head: Head,
-}
 
 // What a load answers.
 pub struct Loaded {
@@ -237,92 +172,4 @@ pub fn load_dict(
         shift,
         text,
     )
-}
-
-// Adds a word with its frequency, or gives a word that is held the new frequency.
-pub fn add_word(
-    head: Head,
-    root_children: &mut [u32],
-    root_words: &mut [i32],
-    keys: &mut [u64],
-    children: &mut [u32],
-    words: &mut [i32],
-    frequencies: &mut [u32],
-    logarithms: &mut [f64],
-    word: &[u8],
-    frequency: u64,
-) -> Added
-    ensures { λ r. ⌜ added r (trieOf (now («root_children» .exit)) (now («root_words» .exit)) (now (keys .exit)) (now (children .exit)) (now (words .exit))) (now (frequencies .exit)) (now (logarithms .exit)) ≡ addOf (bookOf head (trieOf (now («root_children» .entry)) (now («root_words» .entry)) (now (keys .entry)) (now (children .entry)) (now (words .entry))) (now (frequencies .entry)) (now (logarithms .entry))) (now (word .entry)) frequency ⌝ }
-{
-    if !book::is_allowed(
-        root_children.len(),
-        root_words.len(),
-        keys.len(),
-        children.len(),
-        words.len(),
-        frequencies.len(),
-        logarithms.len(),
-    ) {
-        return Added {
-            outcome: Outcome::BadAreas,
-            frequency: 0,
-            head,
-        };
-    }
-    if word.len() > book::LONGEST_TEXT {
-        return Added {
-            outcome: Outcome::TooLong,
-            frequency: 0,
-            head,
-        };
-    }
-    let CharCount::Chars(count) = utf8::char_count(word) else {
-        return Added {
-            outcome: Outcome::Malformed,
-            frequency: 0,
-            head,
-        };
-    };
-    if count == 0 {
-        return Added {
-            outcome: Outcome::Done,
-            frequency: 0,
-            head,
-        };
-    }
-    if book::GREATEST_TOTAL < frequency {
-        return Added {
-            outcome: Outcome::BadFrequency,
-            frequency: 0,
-            head,
-        };
-    }
-    let shift = trie::shift_of(keys.len());
-    let entered = entry::load_entry(
-        head,
-        root_children,
-        root_words,
-        keys,
-        children,
-        words,
-        frequencies,
-        logarithms,
-        shift,
-        word,
-        frequency as u32,
-    );
-    let outcome = entered.outcome;
-    let next = entered.head;
-    if book::number_of(outcome) != 0 {
-        return Added {
-            outcome,
-            frequency: 0,
-            head: next,
-        };
-    }
-    Added {
-        outcome,
-        frequency,
-        head: next,
-    }
 }

@@ -5,10 +5,11 @@ use mathlib.Core.Path.{_≡_, refl, sym, ap, _∙_}
 use mathlib.Core.Bool.{Bool, true, false, cond}
 use mathlib.Core.List.{List, [], _∷_}
 use mathlib.Core.Option.{Option, none, some}
-use Prim.Native.Nat.{ℕ, zero, suc, _+_, _-_, _*_, _<_, _≤_}
+use Prim.Native.Nat.{ℕ, suc, _+_, _-_, _*_, _<_, _≤_}
 use native.Mathlib.Omega.{arith}
 use borrow.Author.Tests.{leb-false, ltb-false}
 use lib.Dec.{leb, ltb}
+use lib.Ieee.{Float}
 use lib.ListN.{length, getD}
 use Rattle.trie.specs.declared.Got.{Got}
 use Rattle.trie.specs.declared.Got.the-variants.{Held, Absent}
@@ -16,16 +17,20 @@ use Rattle.trie.specs.declared.ParentRef.{ParentRef}
 use Rattle.trie.specs.declared.ParentRef.the-variants.{Root}
 use Rattle.trie.specs.declared.WordNumber.{WordNumber}
 use Rattle.trie.specs.declared.WordNumber.the-variants.{NoWord, Record, Bad}
-use Rattle.trie.specs.Trie.{getOf, wordAt, Reach, Reached, NoEnd, reach, newSlots, newNodes}
+use Rattle.trie.specs.Trie.{CharTrie, log2, getOf, wordAt, Reach, Reached, NoEnd, reach, newSlots, newNodes}
 use Rattle.walk.specs.Walk.{gotOf}
+use Rattle.insert.specs.Insert as Insertion
 use Rattle.book.specs.declared.Head.{Head}
 use Rattle.book.specs.declared.Decision.{Decision}
 use Rattle.book.specs.declared.Decision.the-variants.{Refuse, Replace, Insert}
 use Rattle.book.specs.declared.Outcome.{Outcome}
 use Rattle.book.specs.declared.Outcome.the-variants.{Done}
-use Rattle.book.specs.Returns.{Book, numberOf, greatestTotal, lastNode, damagedHead}
-use Rattle.book.specs.Enter.{replaceBy, emptySlots, noRecord, insertBy, decideHeld, decideNew, decideReached, decideAbsent, decide, enter}
+use Rattle.book.specs.Areas.{bookOf}
+use Rattle.book.specs.Returns.{Book, numberOf, allowed, greatestTotal, lastNode, damagedHead}
+use Rattle.book.specs.Enter.{emptySlots, noRecord, decideHeld, decideNew, decideReached, decideAbsent, decide, enter}
 use Rattle.book.proofs.Held.{held-used}
+use Rattle.book.proofs.Sizes.{sizes}
+use Rattle.book.proofs.Areas.{slot-count}
 use Rattle.entry.specs.Texts.{decideText}
 
 -- what a decision promises of a book with so many records and slots; a refusal is not answered with 0
@@ -89,5 +94,21 @@ unfolding decideText
 decided-text b none frequency = not-done Outcome.Malformed 2 refl
 decided-text b (some word) frequency = decided b word frequency
 
-pub promised : (b : Book) (o : Option (List ℕ)) (frequency : ℕ) (d : Decision) → d ≡ decideText b o frequency → Promises b d
-promised b o frequency d e = rw e (decided-text b o frequency)
+-- ---- the same of what `decide` answers, whatever the logarithms
+
+module _ (head : Head) (trie : CharTrie) (f : List ℕ) (o : Option (List ℕ)) (frequency : ℕ) {d : Decision} (decides : (l : List Float) → d ≡ decideText (bookOf head trie f l) o frequency) where
+  promised : Promises (bookOf head trie f []) d
+  promised = rw (decides []) (decided-text (bookOf head trie f []) o frequency)
+
+  pub record-held : {n total : ℕ} → d ≡ Replace n total → n < head .records
+  record-held e = rw e at promised
+
+  pub room-left : {slots nodes total : ℕ} → d ≡ Insert slots nodes total → Inserts head (length f) (length (trie .keys)) slots nodes
+  room-left e = rw e at promised
+
+-- ---- what the insertion requires of the sizes
+
+pub insert-sizes : (a b c d e f g shift : ℕ) → allowed a b c d e f g ≡ true → shift ≡ 64 - log2 c → Insertion.Sizes a b c d e shift
+insert-sizes a b c d e f g shift h shifted =
+    let s = sizes a b c d e f g h in
+    record { rootLengths = s .root-words; slotCount = slot-count a b c d e f g h; childLengths = s .slot-children; wordLengths = s .slot-words; shifted = shifted }

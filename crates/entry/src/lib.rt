@@ -12,7 +12,9 @@ ghost use Rattle.utf8.specs.Text.{charsOf};
 ghost use Rattle.trie.specs.Trie.{trieOf, log2, SlotCount};
 ghost use Rattle.walk.specs.Walk.{EquallyLong};
 ghost use Rattle.book.specs.Areas.{bookOf};
+ghost use Rattle.book.specs.declared.Outcome.the-variants.{Done};
 ghost use Rattle.book.specs.Returns.{longestText, greatestTotal, allowed, headDamaged};
+ghost use Rattle.book.specs.Enter.{withTotal};
 ghost use Rattle.entry.specs.Texts.{absentText, decideText, enterText, entered};
 use book::Decision;
 use book::Head;
@@ -140,6 +142,21 @@ pub struct Entered {
     pub head: Head,
 }
 
+// The answer where a word that was held has its new frequency: only the total changes.
+fn replaced(head: Head, total: u64) -> Entered
+    ensures { λ r. ⌜ r ≡ record { outcome = Done; head = withTotal head total } ⌝ }
+{
+    Entered {
+        outcome: Outcome::Done,
+        head: Head {
+            records: head.records,
+            slots: head.slots,
+            next: head.next,
+            total,
+        },
+    }
+}
+
 // A word enters with its frequency, or is refused and leaves everything as it was.
 pub fn load_entry(
     head: Head,
@@ -180,15 +197,7 @@ pub fn load_entry(
         Decision::Refuse(outcome) => Entered { outcome, head },
         Decision::Replace(n, total) => {
             set_record(frequencies, logarithms, n, frequency);
-            Entered {
-                outcome: Outcome::Done,
-                head: Head {
-                    records: head.records,
-                    slots: head.slots,
-                    next: head.next,
-                    total,
-                },
-            }
+            replaced(head, total)
         }
         Decision::Insert(slots, nodes, total) => {
             insert::insert(

@@ -109,7 +109,7 @@ fn settle(choice: Choice, log_total: f64, score: f64, next: u32) -> RouteEntry
 // The route of a block of n characters, from the right: writes the score, the end and the record of each position up to n.
 // The edges of a position i are the places `starts[i]` up to `starts[i + 1]` of the edge slices.
 pub fn calc(
-    starts: &[u32],
+    starts: &[usize],
     edge_ends: &[u32],
     edge_records: &[u32],
     logarithms: &[f64],
@@ -137,8 +137,8 @@ pub fn calc(
             logarithms,
             scores,
             log_total,
-            starts[i] as usize,
-            starts[next] as usize,
+            starts[i],
+            starts[next],
         );
         let entry = settle(choice, log_total, scores[next], next as u32);
         scores[i] = entry.score;

@@ -1,7 +1,7 @@
 -- `charsOf`, by what stands at the text's start, and the claims about whole texts.
 -- `charsWithin` counts down with each character, and a character has at least one byte. So any count that is at least the text's length gives the same, and a text's characters are its first one before those of the rest.
 -- Assumes nothing.
-use mathlib.Core.Path.{_≡_, refl, sym, ap, _∙_}
+use mathlib.Core.Path.{_≡_, refl, sym, ap, subst, _∙_}
 use mathlib.Core.Bool.{Bool, true, false, cond}
 use mathlib.Core.Logic.{_⊎_, inl, inr}
 use mathlib.Core.List.{List, [], _∷_, _++_}
@@ -160,3 +160,11 @@ only-within (suc n) bs cs h e = go (readFrom bs) refl (λ w k ds q. only-within 
 
 pub texts-only-of-encodings : TextsOnlyOfEncodings
 texts-only-of-encodings bs cs e = only-within (length bs) bs cs (omega arith) e
+
+-- a text has no more characters than bytes
+chars-bytes : (cs : List ℕ) → length cs ≤ length (encodeText cs)
+chars-bytes [] = omega arith
+chars-bytes (c ∷ cs) = omega (arith, encode-short c, chars-bytes cs, length-append (encode c) (encodeText cs))
+
+pub no-more-than-bytes : (bs cs : List ℕ) → charsOf bs ≡ some cs → length cs ≤ length bs
+no-more-than-bytes bs cs e = subst (λ (bytes : List ℕ). length cs ≤ length bytes) (texts-only-of-encodings bs cs e .1) (chars-bytes cs)

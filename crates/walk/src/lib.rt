@@ -37,9 +37,9 @@ pub enum Room {
 }
 
 // A character's scalar value, and how many bytes it takes.
-struct NextChar {
-    value: u32,
-    width: usize,
+pub struct NextChar {
+    pub value: u32,
+    pub width: usize,
 }
 
 // The root's step: by the root table, or among the slots where the table is too short.
@@ -60,7 +60,7 @@ pub fn root_step(root_children: &[u32], keys: &[u64], shift: u32, ch: u32) -> St
 }
 
 // A lookup's step: it tests the bits.
-fn tested_step(
+pub fn tested_step(
     root_children: &[u32],
     keys: &[u64],
     children: &[u32],
@@ -110,7 +110,7 @@ pub fn open_step(
 }
 
 // What the word number at a place says.
-fn word_at(root_words: &[i32], words: &[i32], used: usize, place: ParentRef) -> WordNumber
+pub fn word_at(root_words: &[i32], words: &[i32], used: usize, place: ParentRef) -> WordNumber
     requires { ⌜ Inside (length (now «root_words»)) (length (now words)) place ⌝ }
     ensures { λ r. ⌜ ((rootChildren keys children : List ℕ) → r ≡ wordAt used (trieOf rootChildren (now («root_words» .entry)) keys children (now (words .entry))) place) ⌝ }
 {
@@ -122,7 +122,7 @@ fn word_at(root_words: &[i32], words: &[i32], used: usize, place: ParentRef) -> 
 }
 
 // The character at a position of a text that is known to be well formed, where nothing malformed is met, and no end.
-fn next_char(s: &[u8], at: usize) -> NextChar
+pub fn next_char(s: &[u8], at: usize) -> NextChar
     requires { ⌜ (at < length (now s)) × IsSome (charsFrom (now s) at) ⌝ }
     ensures { λ r. ⌜ characterAt (now (s .entry)) at ≡ Char (r .value) (r .width) ⌝ }
 {

@@ -1,8 +1,7 @@
 -- `dict::load_line` meets its contract: each case of what the line says is the case of the answer. Assumes nothing.
-use mathlib.Core.Path.{sym, _∙_}
 use native.Mathlib.Omega.{arith}
-use Rattle.dict.proofs.Lines.{line-malformed, line-blank, line-bad, part, part-chars, part-length, line-entry}
 use borrow.Author.Needs.{needs}
+use Rattle.dict.proofs.Lines.{line-malformed, line-blank, line-bad, word-inside, word-chars, word-short, word-entered}
 use Rattle.dict.proofs.load_line.Statement.{statement}
 use Rattle.dict.proofs.load_line.Tie as tie
 
@@ -22,25 +21,50 @@ enum-known-start : tie.Need-enum-known-start
 enum-known-start c = search needs
 
 sub-load-entry : tie.Need-sub-load-entry
-sub-load-entry c = part _ _ _ _ (sym (c .before .before .before .before .before .before .before .before .before .before .parse-line .ensures) ∙ c .before .before .before .before .before .before .before .before .start .given .1) .0
+sub-load-entry c =
+    let word = c .before .before .before .before .before .before .before .before in
+    let parsed = word .before .before in
+    word-inside _ (parsed .parse-line .ensures) (word .start .given .1) .0
 
 part-load-entry-start : tie.Need-part-load-entry-start
-part-load-entry-start c = omega (arith, part _ _ _ _ (sym (c .before .before .before .before .before .before .before .before .before .before .parse-line .ensures) ∙ c .before .before .before .before .before .before .before .before .start .given .1))
+part-load-entry-start c =
+    let word = c .before .before .before .before .before .before .before .before in
+    let parsed = word .before .before in
+    omega (arith, word-inside _ (parsed .parse-line .ensures) (word .start .given .1))
 
 part-load-entry-end : tie.Need-part-load-entry-end
-part-load-entry-end c = omega (arith, part _ _ _ _ (sym (c .before .before .before .before .before .before .before .before .before .before .parse-line .ensures) ∙ c .before .before .before .before .before .before .before .before .start .given .1))
+part-load-entry-end c =
+    let word = c .before .before .before .before .before .before .before .before in
+    let parsed = word .before .before in
+    omega (arith, word-inside _ (parsed .parse-line .ensures) (word .start .given .1))
 
 load-entry-requires : tie.Need-load-entry-requires
-load-entry-requires c κs = (c .before .before .before .before .before .before .before .before .before .before .before .before .before .before .before .before .before .before .pre .0, (c .before .before .before .before .before .before .before .before .before .before .before .before .before .before .before .before .before .before .pre .1 .0, part-chars _ _ _ _ (sym (c .before .before .before .before .before .before .before .before .before .before .before .parse-line .ensures) ∙ c .before .before .before .before .before .before .before .before .before .start .given .1), part-length _ _ _ _ (sym (c .before .before .before .before .before .before .before .before .before .before .before .parse-line .ensures) ∙ c .before .before .before .before .before .before .before .before .before .start .given .1) _ (c .before .before .before .before .before .before .before .before .before .before .before .before .before .before .before .before .before .before .pre .1 .1)))
+load-entry-requires c κs =
+    let word = c .before .before .before .before .before .before .before .before .before in
+    let parsed = word .before .before in
+    let start = parsed .before .before .before .before .before .before .before in (
+      start .pre .0,
+      (
+        start .pre .1 .0,
+        word-chars _ (parsed .parse-line .ensures) (word .start .given .1),
+        word-short _ (parsed .parse-line .ensures) (word .start .given .1) _ (start .pre .1 .1),
+      ),
+    )
 
 returns : tie.Need-returns
-returns c = line-malformed _ _ (sym (c .before .before .parse-line .ensures) ∙ c .enum-told .given .1)
+returns c =
+    let parsed = c .before .before in
+    line-malformed _ _ (parsed .parse-line .ensures) (c .enum-told .given .1)
 
 returns-2 : tie.Need-returns-2
-returns-2 c = line-blank _ _ (sym (c .before .before .parse-line .ensures) ∙ c .enum-told2 .given .1)
+returns-2 c =
+    let parsed = c .before .before in
+    line-blank _ _ (parsed .parse-line .ensures) (c .enum-told2 .given .1)
 
 returns-3 : tie.Need-returns-3
-returns-3 c = line-bad _ _ (sym (c .before .before .parse-line .ensures) ∙ c .enum-told3 .given .1)
+returns-3 c =
+    let parsed = c .before .before in
+    line-bad _ _ (parsed .parse-line .ensures) (c .enum-told3 .given .1)
 
 same-length : tie.Need-same-length
 same-length c = search needs
@@ -64,7 +88,11 @@ same-length-7 : tie.Need-same-length-7
 same-length-7 c = search needs
 
 returns-4 : tie.Need-returns-4
-returns-4 c = line-entry _ _ _ _ (sym (c .before .before .before .before .before .before .before .before .before .before .before .before .before .before .before .before .before .before .before .before .before .before .before .before .parse-line .ensures) ∙ c .before .before .before .before .before .before .before .before .before .before .before .before .before .before .before .before .before .before .before .before .before .before .start .given .1) _ _ (c .before .before .before .before .before .before .before .before .before .before .before .before .load-entry .ensures)
+returns-4 c =
+    let enters = c .before .before .before .before .before .before .before .before .before .before .before .before in
+    let word = enters .before .before .before .before .before .before .before .before .before .before in
+    let parsed = word .before .before in
+    word-entered _ (parsed .parse-line .ensures) (word .start .given .1) _ (enters .load-entry .ensures)
 
 pub load-line-spec : {M : Type 1} → statement M
 load-line-spec =

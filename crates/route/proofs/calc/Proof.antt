@@ -61,17 +61,11 @@ mul-best-of c = search needs
 shared-slice-read-best-of : tie.Need-shared-slice-read-best-of Inv-loop μ-loop
 shared-slice-read-best-of c = search needs
 
-cast-best-of : tie.Need-cast-best-of Inv-loop μ-loop
-cast-best-of c = omega (arith, c .shared-slice-known5 .given (c .before .before .before .loop .i - 1))
-
 mul-best-of-2 : tie.Need-mul-best-of-2 Inv-loop μ-loop
 mul-best-of-2 c = search needs
 
 shared-slice-read-best-of-2 : tie.Need-shared-slice-read-best-of-2 Inv-loop μ-loop
 shared-slice-read-best-of-2 c = search needs
-
-cast-best-of-2 : tie.Need-cast-best-of-2 Inv-loop μ-loop
-cast-best-of-2 c = omega (arith, c .shared-slice-known6 .given (c .before .before .before .before .loop .i))
 
 best-of-requires : tie.Need-best-of-requires Inv-loop μ-loop
 best-of-requires c κs =
@@ -157,10 +151,8 @@ calc-spec =
     sub-i
     mul-best-of
     shared-slice-read-best-of
-    cast-best-of
     mul-best-of-2
     shared-slice-read-best-of-2
-    cast-best-of-2
     best-of-requires
     mul-settle
     slice-read-settle

@@ -1,0 +1,2 @@
+-- The definitions that the contracts of `addition` cite beside those of `book`.
+pub mod Answers

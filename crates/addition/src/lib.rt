@@ -1,0 +1,96 @@
+//! Adding a word with its frequency to a book (lib.rs, `add_word`).
+//!
+//! The Rust grows its tables. Here a book is seven lent slices and a head by value, which goes in and comes back with the
+//! answer. The sizes of what is lent are tested, and nothing is required of the caller.
+ghost use mathlib.Core.Path.{_≡_};
+ghost use Rattle.trie.specs.Trie.{trieOf};
+ghost use Rattle.book.specs.Areas.{bookOf};
+ghost use Rattle.book.specs.Enter.{addOf};
+ghost use Rattle.addition.specs.Answers.{added, notAdded, addedBy};
+use book::Head;
+use book::Outcome;
+use entry::Entered;
+use lookup::WordTest;
+
+// What an addition answers.
+pub struct Added {
+    pub outcome: Outcome,
+    pub frequency: u64,
+    pub head: Head,
+}
+
+// The answer where no word has entered: frequency 0.
+fn not_added(head: Head, outcome: Outcome) -> Added
+    ensures { λ r. ⌜ r ≡ notAdded head outcome ⌝ }
+{
+    Added {
+        outcome,
+        frequency: 0,
+        head,
+    }
+}
+
+// The answer by what entering the word answered: its frequency, or 0 where it is refused.
+fn added_by(entered: Entered, frequency: u64) -> Added
+    ensures { λ r. ⌜ r ≡ addedBy entered frequency ⌝ }
+{
+    let outcome = entered.outcome;
+    let head = entered.head;
+    if book::number_of(outcome) != 0 {
+        return not_added(head, outcome);
+    }
+    Added {
+        outcome,
+        frequency,
+        head,
+    }
+}
+
+// Adds a word with its frequency, or gives a word that is held the new frequency.
+pub fn add_word(
+    head: Head,
+    root_children: &mut [u32],
+    root_words: &mut [i32],
+    keys: &mut [u64],
+    children: &mut [u32],
+    words: &mut [i32],
+    frequencies: &mut [u32],
+    logarithms: &mut [f64],
+    word: &[u8],
+    frequency: u64,
+) -> Added
+    ensures { λ r. ⌜ added r (trieOf (now («root_children» .exit)) (now («root_words» .exit)) (now (keys .exit)) (now (children .exit)) (now (words .exit))) (now (frequencies .exit)) (now (logarithms .exit)) ≡ addOf (bookOf head (trieOf (now («root_children» .entry)) (now («root_words» .entry)) (now (keys .entry)) (now (children .entry)) (now (words .entry))) (now (frequencies .entry)) (now (logarithms .entry))) (now (word .entry)) frequency ⌝ }
+{
+    match lookup::test_word(
+        root_children.len(),
+        root_words.len(),
+        keys.len(),
+        children.len(),
+        words.len(),
+        frequencies.len(),
+        logarithms.len(),
+        word,
+    ) {
+        WordTest::Refused(outcome) => return not_added(head, outcome),
+        WordTest::Empty => return not_added(head, Outcome::Done),
+        WordTest::Word => {}
+    }
+    if book::GREATEST_TOTAL < frequency {
+        return not_added(head, Outcome::BadFrequency);
+    }
+    let shift = trie::shift_of(keys.len());
+    let entered = entry::load_entry(
+        head,
+        root_children,
+        root_words,
+        keys,
+        children,
+        words,
+        frequencies,
+        logarithms,
+        shift,
+        word,
+        frequency as u32,
+    );
+    added_by(entered, frequency)
+}

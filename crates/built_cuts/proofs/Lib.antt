@@ -1,0 +1,5 @@
+-- The proofs of the claims on cuts in books built by calls, and on search words.
+mod Rows
+pub mod Routes
+pub mod Sentences
+pub mod SearchWords

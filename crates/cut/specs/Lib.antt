@@ -1,0 +1,2 @@
+-- The definitions that the contracts of `cut` cite.
+pub mod Areas

@@ -1,0 +1,171 @@
+-- `cut_all::cut_all_blocks` meets its contract. The loop's invariant is `Cutting`, and the measure is the number of bytes left. A turn and each return is a law
+-- of `Blocks`, over what `next_recording` ensures, and then `cut_all_tokens` or `cut_all_unmatched`.
+-- Assumes nothing.
+use Prim.Native.Nat.{_-_}
+use mathlib.Core.Logic.{⊎-elim}
+use mathlib.Core.Path.{sym, _∙_}
+use native.Mathlib.Omega.{arith}
+use lib.ListN.{length, take}
+use borrow.Author.Needs.{needs}
+use Rattle.cut_all.proofs.Blocks.{Cutting, BlockCut, begins, room-chars, room-offsets, run-in-offsets, run-in-text, matched-cut, unmatched-cut, as-answered, ends-here, ends-stopped, goes-behind}
+use Rattle.cut_all.proofs.cut_all_blocks.Statement.{statement}
+use Rattle.cut_all.proofs.cut_all_blocks.Tie as tie
+
+abbrev Inv-loop : tie.InvT-loop
+Inv-loop root-children root-words keys children words shift used sentence chars₀ offsets₀ tokens₀ at₀ base₀ count₀ chars offsets tokens at base count =
+    Cutting root-children root-words keys children words used sentence chars₀ offsets₀ tokens₀ chars offsets tokens at base count
+
+abbrev μ-loop : tie.MeasureT-loop
+μ-loop root-children root-words keys children words shift used sentence chars₀ offsets₀ tokens₀ at₀ base₀ count₀ chars offsets tokens at base count =
+    length sentence - at
+
+-- the function's entry, from the loop's head
+abbrev start : tie.At-loop Inv-loop μ-loop → tie.Start Inv-loop μ-loop
+start c = c .before .before .before .before .before .before .before .before
+
+-- the loop's head, from the run
+abbrev head : tie.After-next-recording Inv-loop μ-loop → tie.At-loop Inv-loop μ-loop
+head c = c .before .before .before .before
+
+-- the run, from where its block is cut
+abbrev run : tie.Joined1 Inv-loop μ-loop → tie.After-next-recording Inv-loop μ-loop
+run c = c .before .before .before .before .before
+
+-- the block that is cut, of the class or not
+block : (c : tie.Joined1 Inv-loop μ-loop)
+    → let at = head (run c) in
+    let args = start at .args in
+    let r = run c .next-recording .result in
+    BlockCut (args .root-children .now) (args .root-words .now) (args .keys .now) (args .children .now) (args .words .now) (args .used)
+    (at .loop .base) (at .loop .at) (r .matched) (take (r .chars) (run c .next-recording .last .1 .1 .1 .0)) (at .loop .tokens) (at .loop .count) (c .if1 .cut) (c .if1 .tokens)
+block c =
+    let at = head (run c) in
+    ⊎-elim
+    (λ w. as-answered (w .7) (w .8) (matched-cut (at .loop .inv) (run c .next-recording .ensures) (w .0 .taken) (w .4 .kept .1 .1 .1 .1 .1 .1 .1 .1 .1 .1 .1 .0) (w .4 .ensures)))
+    (λ w. as-answered (w .7) (w .8) (unmatched-cut (at .loop .inv) (run c .next-recording .ensures) (w .0 .left) (w .4 .kept .1 .1 .1 .1 .0) (w .4 .ensures)))
+    (c .if1 .came)
+
+loop-holds : tie.Need-loop-holds Inv-loop μ-loop
+loop-holds c =
+    begins _ _ _ _ _ _ _ _ _ _ (c .before .before .before .before .before .before .before .pre .1 .1 .0 .1)
+
+next-recording-requires : tie.Need-next-recording-requires Inv-loop μ-loop
+next-recording-requires c κs =
+    let loop = c .before .before .before in
+    let entry = start loop in
+    let room = entry .pre .1 .1 .1 in (
+      (c .before .before .loop-test .taken, entry .pre .1 .1 .0 .0, loop .loop .inv .well-formed),
+      (room-chars (loop .loop .inv) (room .0), room-offsets (loop .loop .inv) (room .1)),
+    )
+
+cut-all-tokens-requires : tie.Need-cut-all-tokens-requires Inv-loop μ-loop
+cut-all-tokens-requires c κs =
+    let run = c .before .before .before .before .before .before .before .before in
+    let loop = head run in
+    let entry = start loop in
+    let recorded = run .next-recording .ensures in (
+      entry .pre .0,
+      (
+        entry .pre .1 .0,
+        (
+          omega (arith, recorded .fits),
+          run-in-offsets (loop .loop .inv) recorded (entry .pre .1 .1 .1 .1) (run .next-recording .kept .1 .1 .1 .1 .0),
+          recorded .characters,
+          run-in-text (loop .loop .inv) recorded (entry .pre .1 .1 .0 .0),
+        ),
+      ),
+    )
+
+cut-all-unmatched-requires : tie.Need-cut-all-unmatched-requires Inv-loop μ-loop
+cut-all-unmatched-requires c κs =
+    let run = c .before .before .before .before .before .before .before .before in
+    let loop = head run in
+    let entry = start loop in
+    let recorded = run .next-recording .ensures in (
+      omega (arith, recorded .fits),
+      run-in-offsets (loop .loop .inv) recorded (entry .pre .1 .1 .1 .1) (run .next-recording .kept .1 .1 .1 .1 .0),
+      run-in-text (loop .loop .inv) recorded (entry .pre .1 .1 .0 .0),
+    )
+
+number-of-requires : tie.Need-number-of-requires Inv-loop μ-loop
+number-of-requires c κs = search needs
+
+same-length : tie.Need-same-length Inv-loop μ-loop
+same-length c =
+    let run = run (c .before .before) in
+    run .next-recording .kept .1 .1 .1 .0 ∙ head run .loop .inv .chars-long
+
+same-length-2 : tie.Need-same-length-2 Inv-loop μ-loop
+same-length-2 c =
+    let run = run (c .before .before) in
+    run .next-recording .kept .1 .1 .1 .1 .0 ∙ head run .loop .inv .offsets-long
+
+same-length-3 : tie.Need-same-length-3 Inv-loop μ-loop
+same-length-3 c =
+    let cut = c .before .before in
+    block cut .kept ∙ head (run cut) .loop .inv .tokens-long
+
+returns : tie.Need-returns Inv-loop μ-loop
+returns c =
+    let cut = c .before .before in
+    let run = run cut in
+    ends-stopped (head run .loop .inv) (run .next-recording .ensures) (block cut) (λ e. c .if2 .taken (c .before .number-of .ensures ∙ e))
+
+cast-base : tie.Need-cast-base Inv-loop μ-loop
+cast-base c =
+    let run = run (c .before .before) in
+    omega (arith, run-in-text (head run .loop .inv) (run .next-recording .ensures) (start (head run) .pre .1 .1 .0 .0))
+
+add-base : tie.Need-add-base Inv-loop μ-loop
+add-base c =
+    let run = run (c .before .before) in
+    omega (arith, run-in-text (head run .loop .inv) (run .next-recording .ensures) (start (head run) .pre .1 .1 .0 .0))
+
+loop-less : tie.Need-loop-less Inv-loop μ-loop
+loop-less c =
+    let run = run (c .before .before) in
+    omega (arith, run .next-recording .ensures .forward, run .before .before .before .loop-test .taken)
+
+loop-again : tie.Need-loop-again Inv-loop μ-loop
+loop-again c =
+    let cut = c .before .before in
+    let run = run cut in
+    goes-behind (head run .loop .inv) (run .next-recording .ensures) (block cut) (sym (c .before .number-of .ensures) ∙ c .if2 .left)
+    (run .next-recording .kept .1 .1 .1 .0) (run .next-recording .kept .1 .1 .1 .1 .0)
+
+same-length-4 : tie.Need-same-length-4 Inv-loop μ-loop
+same-length-4 c = search
+
+same-length-5 : tie.Need-same-length-5 Inv-loop μ-loop
+same-length-5 c = search
+
+same-length-6 : tie.Need-same-length-6 Inv-loop μ-loop
+same-length-6 c = search
+
+returns-2 : tie.Need-returns-2 Inv-loop μ-loop
+returns-2 c =
+    ends-here (c .before .loop .inv) (c .loop-test .left)
+
+pub cut-all-blocks-spec : {M : Type 1} → statement M
+cut-all-blocks-spec =
+    tie.close
+    (tie.spec
+    Inv-loop
+    μ-loop
+    loop-holds
+    next-recording-requires
+    cut-all-tokens-requires
+    cut-all-unmatched-requires
+    number-of-requires
+    same-length
+    same-length-2
+    same-length-3
+    returns
+    cast-base
+    add-base
+    loop-less
+    loop-again
+    same-length-4
+    same-length-5
+    same-length-6
+    returns-2)

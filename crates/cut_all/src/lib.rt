@@ -1,0 +1,272 @@
+//! `cut_all` (lib.rs): every word of the dictionary that a sentence's blocks hold.
+//!
+//! As in the Rust, the walk through the trie visits the words in the order of the output, so that they are written as it meets
+//! them, and no edge is kept. The work area is two slices, which a block fills from their start: its characters, and their byte
+//! offsets. The token area is one flat slice.
+ghost use mathlib.Core.Path.{_≡_};
+ghost use mathlib.Core.Bool.{false};
+ghost use mathlib.Core.Option.{IsSome};
+ghost use Prim.Native.Nat.{ℕ, _+_, _-_, _≤_, _<_};
+ghost use lib.ListN.{length, take, drop};
+ghost use Rattle.trie.specs.Trie.{SlotCount, log2, trieOf};
+ghost use Rattle.walk.specs.Walk.{EquallyLong};
+ghost use Rattle.utf8.specs.Text.{charsOf};
+ghost use Rattle.book.specs.Returns.{Book};
+ghost use Rattle.book.specs.Prefixes.{wordsFrom};
+ghost use Rattle.book.specs.Areas.{bookOf};
+ghost use Rattle.classes.specs.Blocks.{cutAllClass};
+ghost use Rattle.cuts.specs.Slices.{SeenAs, baseAt, Characters, Offsets};
+ghost use Rattle.cuts.specs.Blocks.{blocksOf};
+ghost use Rattle.cuts.specs.Edges.{vocabularyOf, walksOf};
+ghost use Rattle.cuts.specs.Tokens.{written};
+ghost use Rattle.cuts.specs.Cuts.{cutAnswer, putWalks, cutAllBlock, cutBlocks, start, testedBook, begins, cutAllOf};
+ghost use Rattle.splitter.specs.Runs.{textFrom};
+ghost use Rattle.cut_all.specs.Areas.{putWalk, workOf, Unchanged};
+use book::Head;
+use book::Outcome;
+use cuts::Cut;
+use splitter::CharacterClass;
+use trie::ParentRef;
+use trie::Step;
+use trie::WordNumber;
+
+// Writes the words that start at a position of a block of n characters, as the walk meets them.
+fn words_at(
+    root_children: &[u32],
+    root_words: &[i32],
+    keys: &[u64],
+    children: &[u32],
+    words: &[i32],
+    shift: u32,
+    used: usize,
+    chars: &[u32],
+    offsets: &[u32],
+    n: usize,
+    at: usize,
+    base: u32,
+    tokens: &mut [u32],
+    count: usize,
+) -> Cut
+    requires { ⌜ EquallyLong (now «root_children») (now «root_words») (now keys) (now children) (now words) ⌝ }
+    requires { ⌜ SlotCount (length (now keys)) × (shift ≡ 64 - log2 (length (now keys))) ⌝ }
+    requires { ⌜ (at < n) × (n ≤ length (now chars)) × (n < length (now offsets)) × Characters n (now chars) × (base + n ≤ 16777215) ⌝ }
+    ensures { λ r. ⌜ ((b : Book) (bytes : ℕ) → SeenAs b (now («root_children» .entry)) (now («root_words» .entry)) (now (keys .entry)) (now (children .entry)) (now (words .entry)) used
+        → Offsets bytes (take n (now (chars .entry))) (now (offsets .entry))
+        → cutAnswer r (now (tokens .exit)) ≡ putWalk (baseAt base bytes) (take n (now (chars .entry))) at (written count (now (tokens .entry))) (wordsFrom b at (drop at (take n (now (chars .entry)))))) ⌝ }
+{
+    let mut count = count;
+    let mut place = ParentRef::Root;
+    let mut next = at;
+    while next < n {
+        match walk::tested_step(root_children, keys, children, shift, place, chars[next]) {
+            Step::At(child) => {
+                place = child;
+                next += 1;
+            }
+            Step::Nothing => {
+                return Cut {
+                    outcome: Outcome::Done,
+                    count,
+                };
+            }
+            Step::Damaged => {
+                return Cut {
+                    outcome: Outcome::Damaged,
+                    count,
+                };
+            }
+        }
+        match walk::word_at(root_words, words, used, place) {
+            WordNumber::NoWord => {}
+            WordNumber::Record(_) => {
+                let put = tokens::emit_span(offsets, base, at, next, tokens, count);
+                let outcome = put.outcome;
+                count = put.count;
+                if book::number_of(outcome) != 0 {
+                    return Cut { outcome, count };
+                }
+            }
+            WordNumber::Bad => {
+                return Cut {
+                    outcome: Outcome::Damaged,
+                    count,
+                };
+            }
+        }
+    }
+    Cut {
+        outcome: Outcome::Done,
+        count,
+    }
+}
+
+// Writes every word of a block of n characters, position after position.
+fn cut_all_tokens(
+    root_children: &[u32],
+    root_words: &[i32],
+    keys: &[u64],
+    children: &[u32],
+    words: &[i32],
+    shift: u32,
+    used: usize,
+    chars: &[u32],
+    offsets: &[u32],
+    n: usize,
+    base: u32,
+    tokens: &mut [u32],
+    count: usize,
+) -> Cut
+    requires { ⌜ EquallyLong (now «root_children») (now «root_words») (now keys) (now children) (now words) ⌝ }
+    requires { ⌜ SlotCount (length (now keys)) × (shift ≡ 64 - log2 (length (now keys))) ⌝ }
+    requires { ⌜ (n ≤ length (now chars)) × (n < length (now offsets)) × Characters n (now chars) × (base + n ≤ 16777215) ⌝ }
+    ensures { λ r. ⌜ ((b : Book) (bytes : ℕ) → SeenAs b (now («root_children» .entry)) (now («root_words» .entry)) (now (keys .entry)) (now (children .entry)) (now (words .entry)) used
+        → Offsets bytes (take n (now (chars .entry))) (now (offsets .entry))
+        → cutAnswer r (now (tokens .exit)) ≡ putWalks (baseAt base bytes) (take n (now (chars .entry))) 0 (written count (now (tokens .entry))) (walksOf (wordsFrom b) 0 (take n (now (chars .entry))))) ⌝ }
+{
+    let mut count = count;
+    let mut at: usize = 0;
+    while at < n {
+        let put = words_at(
+            root_children,
+            root_words,
+            keys,
+            children,
+            words,
+            shift,
+            used,
+            chars,
+            offsets,
+            n,
+            at,
+            base,
+            tokens,
+            count,
+        );
+        let outcome = put.outcome;
+        count = put.count;
+        if book::number_of(outcome) != 0 {
+            return Cut { outcome, count };
+        }
+        at += 1;
+    }
+    Cut {
+        outcome: Outcome::Done,
+        count,
+    }
+}
+
+// The blocks of a sentence, one after the other, up to one that is stopped.
+fn cut_all_blocks(
+    root_children: &[u32],
+    root_words: &[i32],
+    keys: &[u64],
+    children: &[u32],
+    words: &[i32],
+    shift: u32,
+    used: usize,
+    sentence: &[u8],
+    chars: &mut [u32],
+    offsets: &mut [u32],
+    tokens: &mut [u32],
+) -> Cut
+    requires { ⌜ EquallyLong (now «root_children») (now «root_words») (now keys) (now children) (now words) ⌝ }
+    requires { ⌜ SlotCount (length (now keys)) × (shift ≡ 64 - log2 (length (now keys))) ⌝ }
+    requires { ⌜ (length (now sentence) ≤ 16777215) × IsSome (charsOf (now sentence)) ⌝ }
+    requires { ⌜ (length (textFrom (now sentence) 0) < length (now chars)) × (length (textFrom (now sentence) 0) < length (now offsets)) ⌝ }
+    ensures { λ r. ⌜ ((b : Book) → SeenAs b (now («root_children» .entry)) (now («root_words» .entry)) (now (keys .entry)) (now (children .entry)) (now (words .entry)) used
+        → cutAnswer r (now (tokens .exit)) ≡ cutBlocks (cutAllBlock (vocabularyOf b)) start (blocksOf cutAllClass (textFrom (now (sentence .entry)) 0)) (written 0 (now (tokens .entry)))) ⌝ }
+{
+    let mut at: usize = 0;
+    let mut base: u32 = 0;
+    let mut count: usize = 0;
+    while at < sentence.len() {
+        let run = splitter::next_recording(sentence, at, CharacterClass::CutAll, chars, offsets);
+        let n = run.chars;
+        let cut = if run.matched {
+            cut_all_tokens(
+                root_children,
+                root_words,
+                keys,
+                children,
+                words,
+                shift,
+                used,
+                chars,
+                offsets,
+                n,
+                base,
+                tokens,
+                count,
+            )
+        } else {
+            tokens::cut_all_unmatched(chars, offsets, n, base, tokens, count)
+        };
+        let outcome = cut.outcome;
+        count = cut.count;
+        if book::number_of(outcome) != 0 {
+            return Cut { outcome, count };
+        }
+        base += n as u32;
+        at = run.end;
+    }
+    Cut {
+        outcome: Outcome::Done,
+        count,
+    }
+}
+
+// Cuts a sentence into all possible words.
+pub fn cut_all(
+    head: Head,
+    root_children: &[u32],
+    root_words: &[i32],
+    keys: &[u64],
+    children: &[u32],
+    words: &[i32],
+    frequencies: &[u32],
+    logarithms: &[f64],
+    sentence: &[u8],
+    chars: &mut [u32],
+    offsets: &mut [u32],
+    tokens: &mut [u32],
+) -> Cut
+    ensures { λ r. ⌜ cutAnswer r (now (tokens .exit)) ≡ cutAllOf (bookOf head (trieOf (now («root_children» .entry)) (now («root_words» .entry)) (now (keys .entry)) (now (children .entry)) (now (words .entry))) (now (frequencies .entry)) (now (logarithms .entry)))
+        (workOf (now (chars .entry)) (now (offsets .entry))) (now (tokens .entry)) (now (sentence .entry)) ⌝ }
+    ensures { λ _. ⌜ (begins (testedBook (bookOf head (trieOf (now («root_children» .entry)) (now («root_words» .entry)) (now (keys .entry)) (now (children .entry)) (now (words .entry))) (now (frequencies .entry)) (now (logarithms .entry))))
+        (workOf (now (chars .entry)) (now (offsets .entry))) (now (tokens .entry)) (now (sentence .entry)) ≡ false
+        → Unchanged (now (chars .exit)) (now (chars .entry)) (now (offsets .exit)) (now (offsets .entry))) ⌝ }
+{
+    let work = sentence::shorter(chars.len(), offsets.len());
+    let tested = sentence::begin(
+        head,
+        root_children,
+        root_words,
+        keys,
+        children,
+        words,
+        frequencies,
+        logarithms,
+        sentence,
+        work,
+        tokens,
+    );
+    if book::number_of(tested) != 0 {
+        return Cut {
+            outcome: tested,
+            count: 0,
+        };
+    }
+    cut_all_blocks(
+        root_children,
+        root_words,
+        keys,
+        children,
+        words,
+        trie::shift_of(keys.len()),
+        head.records as usize,
+        sentence,
+        chars,
+        offsets,
+        tokens,
+    )
+}

@@ -1,0 +1,43 @@
+-- The areas of a cut as slices: how long an area of several slices is, and a block in the slices that the code lends from one step of a cut to the next,
+-- its characters and where each of them starts.
+-- Assumes nothing.
+use Prim.Native.Nat.{ℕ, _+_, _^_, _≤_, _<_}
+use mathlib.Core.Bool.{Bool, cond}
+use mathlib.Core.List.{List, [], _∷_}
+use mathlib.Core.Path.{_≡_}
+use lib.Dec.{ltb}
+use lib.IntN.{ℤ}
+use lib.ListN.{length, getD, take}
+use Rattle.trie.specs.Trie.{trieOf}
+use Rattle.book.specs.Returns.{Book}
+use Rattle.utf8.specs.Encoding.{byteLength}
+use Rattle.cuts.specs.Blocks.{Block}
+use Rattle.cuts.specs.Cuts.{Base}
+
+-- "An area of several slices counts as its shortest"
+abbrev pub shorter : ℕ → ℕ → ℕ
+shorter a b = cond (ltb b a) b a
+
+abbrev pub shortest : ℕ → List ℕ → ℕ
+shortest a [] = a
+shortest a (b ∷ bs) = shortest (shorter a b) bs
+
+-- what a walk is lent of a book: the trie, and how many records are used
+pub record SeenAs (b : Book) (rootChildren : List ℕ) (rootWords : List ℤ) (keys children : List ℕ) (words : List ℤ) (used : ℕ) : Type 0 where
+  pub trie : b .trie ≡ trieOf rootChildren rootWords keys children words
+  pub records : b .head .records ≡ used
+
+-- where a block starts: after so many characters and bytes
+abbrev pub baseAt : ℕ → ℕ → Base
+baseAt chars bytes = record { chars = chars; bytes = bytes }
+
+abbrev pub blockOf : Bool → List ℕ → Block
+blockOf matched chars = record { matched = matched; chars = chars }
+
+-- the first n numbers of a slice are characters, of 21 bits each
+abbrev pub Characters : ℕ → List ℕ → Type 0
+Characters n chars = (i : ℕ) → i < n → getD chars i 0 < 2 ^ 21
+
+-- a slice has the byte offsets of a block's characters, and of its end, where the block starts at the given byte
+abbrev pub Offsets : ℕ → List ℕ → List ℕ → Type 0
+Offsets bytes chars offsets = (i : ℕ) → i ≤ length chars → getD offsets i 0 ≡ bytes + byteLength (take i chars)

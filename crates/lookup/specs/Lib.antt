@@ -1,0 +1,2 @@
+-- The definition that the contract of `test_word` cites beside those of `book`.
+pub mod Tests

@@ -1,0 +1,2 @@
+-- What the tests before a cut come to.
+pub mod Beginning

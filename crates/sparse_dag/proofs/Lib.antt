@@ -1,0 +1,4 @@
+-- The proofs of the crate `sparse_dag`: of the code's functions, each in a folder of its name, with their laws. Assumes nothing.
+pub mod Slices
+pub mod Walks
+pub mod Blocks

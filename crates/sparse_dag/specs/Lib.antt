@@ -1,0 +1,2 @@
+-- The definitions that the contracts of `sparse_dag` cite.
+pub mod Edges

@@ -1,0 +1,2 @@
+-- The definitions that the contracts of `splitter` cite.
+pub mod Runs

@@ -1,0 +1,75 @@
+-- Where a run ends: the loops of `letters_end` and `joining_end`. What is kept at each turn is `Running`: all positions passed are in the run. A position
+-- that is in the run is passed, and at the first that is not, or at the block's end, the run is maximal.
+-- Assumes nothing.
+use Prim.Native.Nat.{ℕ, _+_, _≤_, _<_}
+use mathlib.Core.Bool.{Bool, true, false, not, _&&_}
+use mathlib.Core.List.{List}
+use mathlib.Core.Path.{_≡_, sym, _∙_, subst}
+use native.Mathlib.Nat.{le-refl}
+use native.Mathlib.Omega.{arith}
+use borrow.Author.Tests.{eq-eqb, ne-eqb, not-true, not-false}
+use lib.Dec.{eqb}
+use lib.ListN.{getD}
+use Rattle.classes.specs.Blocks.{asciiLetterOrDigit}
+use Rattle.classes.specs.Tokens.{joins}
+use Rattle.score.proofs.Tests.{by-leb}
+use Rattle.tokens.specs.Runs.{MaximalRun}
+
+pub record Running (holds : ℕ → Bool) (n from y : ℕ) : Type 0 where
+  pub forward : from ≤ y
+  pub inside : y ≤ n
+  pub all : (i : ℕ) → from ≤ i → i < y → holds i ≡ true
+
+pub run-begins : (holds : ℕ → Bool) (n from : ℕ) → from ≤ n → Running holds n from from
+run-begins holds n from h = record { forward = le-refl from; inside = h; all = λ i first last. absurd (omega arith) }
+
+module _ {holds : ℕ → Bool} {n from y : ℕ} (here : Running holds n from y) where
+  pub run-on : y < n → holds y ≡ true → Running holds n from (y + 1)
+  run-on h e =
+      record {
+        forward = omega (arith, here .forward);
+        inside = omega arith;
+        all =
+            λ i first last. by-leb y i (λ (t : Bool). holds i ≡ true)
+            (λ g. let same : y ≡ i = omega arith in subst (λ (k : ℕ). holds k ≡ true) same e)
+            (λ g. here .all i first g);
+      }
+
+  pub run-stops : holds y ≡ false → MaximalRun holds n from y
+  run-stops e = record { forward = here .forward; inside = here .inside; all = here .all; no-more = λ h. e }
+
+  pub run-ends : n ≤ y → MaximalRun holds n from y
+  run-ends h = record { forward = here .forward; inside = here .inside; all = here .all; no-more = λ g. absurd (omega arith) }
+
+-- ---- steps of one ASCII letter or digit
+
+abbrev pub letterAt : List ℕ → List ℕ → ℕ → Bool
+letterAt chars ends i = eqb (getD ends i 0) (i + 1) && asciiLetterOrDigit (getD chars i 0)
+
+module _ (chars ends : List ℕ) (y : ℕ) where
+  pub longer-step : (getD ends y 0 ≡ y + 1 → ⊥) → letterAt chars ends y ≡ false
+  longer-step e = rw (ne-eqb (getD ends y 0) (y + 1) e)
+
+  -- a step of one character, which `is_ascii_alphanumeric` answers with r
+  module _ (one : getD ends y 0 ≡ y + 1) (r : Bool) (class : r ≡ asciiLetterOrDigit (getD chars y 0)) where
+    by-class : letterAt chars ends y ≡ r
+    by-class = rw (eq-eqb (getD ends y 0) (y + 1) one, class)
+
+    pub letter-step : r ≡ true → letterAt chars ends y ≡ true
+    letter-step e = by-class ∙ e
+
+    pub other-step : r ≡ false → letterAt chars ends y ≡ false
+    other-step e = by-class ∙ e
+
+-- ---- characters that join
+
+abbrev pub joinsAt : List ℕ → ℕ → Bool
+joinsAt chars i = joins (getD chars i 0)
+
+-- what `is_skip_cut_all` answers with r
+module _ (c : ℕ) (r : Bool) (class : r ≡ not (joins c)) where
+  pub stands-singly : r ≡ true → joins c ≡ false
+  stands-singly e = not-true (joins c) (sym class ∙ e)
+
+  pub joins-on : r ≡ false → joins c ≡ true
+  joins-on e = not-false (joins c) (sym class ∙ e)

@@ -1,0 +1,2 @@
+-- The definitions that the contracts of `tokens` cite.
+pub mod Runs
