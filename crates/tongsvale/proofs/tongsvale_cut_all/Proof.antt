@@ -1,0 +1,63 @@
+-- `tongsvale::tongsvale_cut_all` meets its contract: a head of another length is refused with every area as it was, else the call's answer in numbers. Assumes nothing.
+use mathlib.Core.Path.{refl}
+use Rattle.trie.specs.Trie.{trieOf}
+use Rattle.cut_all.specs.Areas.{workOf}
+use Rattle.tongsvale.proofs.Exports.{cut-all-refused, cut-all-by, not-begun}
+use borrow.Author.Needs.{needs}
+use Rattle.tongsvale.proofs.tongsvale_cut_all.Statement.{statement}
+use Rattle.tongsvale.proofs.tongsvale_cut_all.Tie as tie
+
+number-of-requires : tie.Need-number-of-requires
+number-of-requires c κs = search needs
+
+returns : tie.Need-returns
+returns c =
+    let args = c .before .before .before .before .before .before .before .before .before .before .before .before .args in (
+      cut-all-refused _ _ _ _ (c .before .if1 .taken) _ (c .number-of .ensures) (workOf (args .chars .now) (args .offsets .now)) _ _,
+      λ none. record { same-chars = refl; same-offsets = refl },
+    )
+
+read-head-requires : tie.Need-read-head-requires
+read-head-requires c κs = search needs
+
+cut-all-requires : tie.Need-cut-all-requires
+cut-all-requires c κs = search needs
+
+number-of-requires-2 : tie.Need-number-of-requires-2
+number-of-requires-2 c κs = search needs
+
+same-length : tie.Need-same-length
+same-length c = search needs
+
+same-length-2 : tie.Need-same-length-2
+same-length-2 c = search needs
+
+same-length-3 : tie.Need-same-length-3
+same-length-3 c = search needs
+
+returns-2 : tie.Need-returns-2
+returns-2 c =
+    let called = c .before .before .before .before .before .before .before in
+    let read = called .before .before .before .before in
+    let four = read .before .if1 .left in
+    let args = read .before .before .before .before .before .before .before .before .before .before .before .before .args in (
+      cut-all-by _ _ _ _ four _ (read .read-head .ensures) _ _ _ _ (called .cut-all .ensures .0) _ (c .number-of2 .ensures),
+      λ none.
+          called .cut-all .ensures .1
+          (not-begun (args .head .now) _ (trieOf (args .root-children .now) (args .root-words .now) (args .keys .now) (args .children .now) (args .words .now)) (args .frequencies .now) (args .logarithms .now)
+          (workOf (args .chars .now) (args .offsets .now)) (args .tokens .now) (args .sentence .now) four (read .read-head .ensures) none),
+    )
+
+pub tongsvale-cut-all-spec : {M : Type 1} → statement M
+tongsvale-cut-all-spec =
+    tie.close
+    (tie.spec
+    number-of-requires
+    returns
+    read-head-requires
+    cut-all-requires
+    number-of-requires-2
+    same-length
+    same-length-2
+    same-length-3
+    returns-2)

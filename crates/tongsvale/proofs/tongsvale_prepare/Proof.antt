@@ -1,0 +1,112 @@
+-- `tongsvale::tongsvale_prepare` meets its contract: a head of another length is refused, else the call's answer in numbers. Assumes nothing.
+use Rattle.tongsvale.proofs.Exports.{prepare-refused, prepare-ready, prepare-not}
+-- `tongsvale::tongsvale_prepare` meets its contract: a head of another length is refused, else the call's answer in numbers. Assumes nothing.
+-- `tongsvale::tongsvale_prepare` meets its contract: a head of another length is refused, else the call's answer in numbers. Assumes nothing.
+use borrow.Author.Needs.{needs}
+use Rattle.tongsvale.proofs.tongsvale_prepare.Statement.{statement}
+use Rattle.tongsvale.proofs.tongsvale_prepare.Tie as tie
+
+number-of-requires : tie.Need-number-of-requires
+number-of-requires c κs = search needs
+
+returns : tie.Need-returns
+returns c = prepare-refused _ _ _ _ (c .before .if1 .taken) _ (c .number-of .ensures)
+
+prepare-requires : tie.Need-prepare-requires
+prepare-requires c κs = search needs
+
+enum-known-value : tie.Need-enum-known-value
+enum-known-value c = search needs
+
+write-head-requires : tie.Need-write-head-requires
+write-head-requires c κs = search needs
+
+enum-known-outcome : tie.Need-enum-known-outcome
+enum-known-outcome c = search needs
+
+number-of-requires-2 : tie.Need-number-of-requires-2
+number-of-requires-2 c κs = search needs
+
+same-length : tie.Need-same-length
+same-length c = search needs
+
+same-length-2 : tie.Need-same-length-2
+same-length-2 c = search needs
+
+same-length-3 : tie.Need-same-length-3
+same-length-3 c = search needs
+
+same-length-4 : tie.Need-same-length-4
+same-length-4 c = search needs
+
+same-length-5 : tie.Need-same-length-5
+same-length-5 c = search needs
+
+same-length-6 : tie.Need-same-length-6
+same-length-6 c = search needs
+
+same-length-7 : tie.Need-same-length-7
+same-length-7 c = search needs
+
+same-length-8 : tie.Need-same-length-8
+same-length-8 c = search needs
+
+returns-2 : tie.Need-returns-2
+returns-2 c =
+    let called = c .before .before .before .before .before .before .before .before .before .before .before .before .before .before .before .before .before .before .before in
+    prepare-ready _ _ _ _ (called .before .before .before .before .before .before .before .before .if1 .left) _ _ _ _ (called .prepare .ensures) _ (c .before .before .before .before .before .value .given .1) _ (c .before .before .write-head .ensures)
+
+same-length-9 : tie.Need-same-length-9
+same-length-9 c = search needs
+
+same-length-10 : tie.Need-same-length-10
+same-length-10 c = search needs
+
+same-length-11 : tie.Need-same-length-11
+same-length-11 c = search needs
+
+same-length-12 : tie.Need-same-length-12
+same-length-12 c = search needs
+
+same-length-13 : tie.Need-same-length-13
+same-length-13 c = search needs
+
+same-length-14 : tie.Need-same-length-14
+same-length-14 c = search needs
+
+same-length-15 : tie.Need-same-length-15
+same-length-15 c = search needs
+
+returns-3 : tie.Need-returns-3
+returns-3 c =
+    let called = c .before .before .before .before .before .before .before .before .before .before .before .before .before .before .before .before in
+    prepare-not _ _ _ _ (called .before .before .before .before .before .before .before .before .if1 .left) _ _ _ _ (called .prepare .ensures) _ (c .before .before .outcome .given .1) _ (c .number-of2 .ensures)
+
+pub tongsvale-prepare-spec : {M : Type 1} → statement M
+tongsvale-prepare-spec =
+    tie.close
+    (tie.spec
+    number-of-requires
+    returns
+    prepare-requires
+    enum-known-value
+    write-head-requires
+    enum-known-outcome
+    number-of-requires-2
+    same-length
+    same-length-2
+    same-length-3
+    same-length-4
+    same-length-5
+    same-length-6
+    same-length-7
+    same-length-8
+    returns-2
+    same-length-9
+    same-length-10
+    same-length-11
+    same-length-12
+    same-length-13
+    same-length-14
+    same-length-15
+    returns-3)

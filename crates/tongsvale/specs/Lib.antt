@@ -1,0 +1,2 @@
+-- The definitions that the contracts of `tongsvale` cite.
+pub mod Exports
