@@ -31,11 +31,12 @@ by-number used n (pos k) e = go (ltb k used) refl e
 by-number used n (negsuc zero) e = let z : _≡_ {A = ℕ} 0 1 = cc in absurd (omega arith)
 by-number used n (negsuc (suc k)) e = let z : _≡_ {A = ℕ} 0 1 = cc in absurd (omega arith)
 
-by-place : (used n : ℕ) (t : CharTrie) (p : ParentRef) → wordAt used t p ≡ Record n → n < used
+-- a record that is read at a place is one in use
+pub record-in-use : (used n : ℕ) (t : CharTrie) (p : ParentRef) → wordAt used t p ≡ Record n → n < used
 unfolding wordAt
-by-place used n t Root e = let z : _≡_ {A = ℕ} 0 1 = cc in absurd (omega arith)
-by-place used n t (RootEntry i) e = by-number used n (getD (t .rootWords) i noWord) e
-by-place used n t (Slot i) e = by-number used n (getD (t .words) i noWord) e
+record-in-use used n t Root e = let z : _≡_ {A = ℕ} 0 1 = cc in absurd (omega arith)
+record-in-use used n t (RootEntry i) e = by-number used n (getD (t .rootWords) i noWord) e
+record-in-use used n t (Slot i) e = by-number used n (getD (t .words) i noWord) e
 
 by-word : (used n : ℕ) (w : WordNumber) → gotByWord w ≡ Held n → w ≡ Record n
 by-word used n NoWord e = let z : _≡_ {A = ℕ} 0 1 = cc in absurd (omega arith)
@@ -47,7 +48,7 @@ unfolding getOf
 by-get used n t cs e = go (walk t Root cs) refl
   where
     go : (s : Step) → walk t Root cs ≡ s → n < used
-    go (At p) q = by-place used n t p (by-word used n (wordAt used t p) (rw (q, getOf) at e))
+    go (At p) q = record-in-use used n t p (by-word used n (wordAt used t p) (rw (q, getOf) at e))
     go Nothing q = let z : _≡_ {A = Got} Absent (Held n) = rw (q, getOf) at e in let y : _≡_ {A = ℕ} 0 1 = cc in absurd (omega arith)
     go Damaged q = let z : _≡_ {A = Got} Got.Damaged (Held n) = rw (q, getOf) at e in let y : _≡_ {A = ℕ} 0 1 = cc in absurd (omega arith)
 

@@ -83,10 +83,11 @@ decide b word frequency =
 
 -- ---- a word enters: what is written
 
--- a record's frequency, and its logarithm
+-- a head with another total
 abbrev pub withTotal : Head → ℕ → Head
 withTotal h total = record { records = h .records; slots = h .slots; next = h .next; total = total }
 
+-- "A held word gets the new frequency": its record's frequency, and the logarithm
 unfoldable pub replaced : Book → ℕ → ℕ → ℕ → Book
 replaced b n frequency total = record {
   head = withTotal (b .head) total;

@@ -6,10 +6,9 @@ use mathlib.Core.List.{List, [], _∷_}
 use mathlib.Core.Option.{Option, none, some, IsSome}
 use Prim.Native.Nat.{ℕ, zero, suc, _+_, _≤_}
 use native.Mathlib.Omega.{arith}
-use lib.ListN.{length, length-append}
-use Rattle.utf8.specs.Encoding.{encode, encodeText}
+use lib.ListN.{length}
 use Rattle.utf8.specs.Text.{charsOf}
-use Rattle.utf8.proofs.Texts.{encode-short, texts-only-of-encodings}
+use Rattle.utf8.proofs.Texts.{no-more-than-bytes}
 use Rattle.trie.specs.declared.Got.{Got}
 use Rattle.trie.specs.declared.Got.the-variants.{Held, Absent}
 use Rattle.trie.specs.declared.ParentRef.{ParentRef}
@@ -58,14 +57,6 @@ decided-by-room b o frequency r h e = ap (λ (x : Room). byRoom b x frequency) e
 
 -- ---- the steps that a word takes are no more than its bytes
 
-chars-bytes : (cs : List ℕ) → length cs ≤ length (encodeText cs)
-chars-bytes [] = omega arith
-chars-bytes (c ∷ cs) =
-    let h = chars-bytes cs in
-    let s = encode-short c in
-    let l : length (encodeText (c ∷ cs)) ≡ length (encode c) + length (encodeText cs) = length-append (encode c) (encodeText cs) in
-    omega arith
-
 left-over : (t : CharTrie) (p q : ParentRef) (cs rest : List ℕ) → reach t p cs ≡ Reached q rest → length rest ≤ length cs
 unfolding reach
 left-over t p q [] rest e = let h : [] ≡ rest = cc in rw (← h) (omega arith)
@@ -101,8 +92,7 @@ unfolding roomFrom
 by-text used t bs none slots nodes q f = let z : _≡_ {A = ℕ} 0 1 = cc in absurd (omega arith)
 by-text used t bs (some cs) slots nodes q f =
     let p = room-of used t cs slots nodes (reach t Root cs) refl f in
-    let b : length (encodeText cs) ≡ length bs = ap length (texts-only-of-encodings bs cs q .1) in
-    let c = chars-bytes cs in
+    let c = no-more-than-bytes bs cs q in
     (omega arith, omega arith)
 
 pub room-small : (used : ℕ) (t : CharTrie) (bs : List ℕ) (slots nodes : ℕ) → roomOf used t (charsOf bs) ≡ Partly slots nodes → (slots ≤ length bs) × (nodes ≤ length bs)

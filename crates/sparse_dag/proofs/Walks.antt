@@ -3,30 +3,29 @@
 -- on meets. A turn takes one character off what is left. A word there is one edge more; where the walk ends, or the room, or the book is damaged, the
 -- edges so far are all that count.
 -- Assumes nothing.
-use Prim.Native.Nat.{ℕ, zero, suc, _+_, _-_, _≤_, _<_}
-use mathlib.Core.Bool.{Bool, true, false, cond}
+use Prim.Native.Nat.{ℕ, suc, _+_, _-_, _≤_, _<_}
+use mathlib.Core.Bool.{true, false}
 use mathlib.Core.List.{List, _∷_, _++_}
 use mathlib.Core.Path.{_≡_, refl, sym, ap, _∙_}
 use native.Mathlib.Nat.{le-refl, sub-self}
 use native.Mathlib.Numerals.{add-one}
 use native.Mathlib.Omega.{arith}
-use borrow.Author.Tests.{ltb-true}
-use lib.Dec.{ltb}
 use lib.Ieee.{nan}
-use lib.IntN.{ℤ, pos, negsuc}
+use lib.IntN.{ℤ}
 use lib.ListN.{length, getD, set, take, drop, length-set, length-append, drop-of-length-le}
 use lib.Seq.{drop-cons, getD-take, length-take-le, getD-set-other}
 use Rattle.trie.specs.declared.ParentRef.{ParentRef}
-use Rattle.trie.specs.declared.ParentRef.the-variants.{Root, RootEntry, Slot}
+use Rattle.trie.specs.declared.ParentRef.the-variants.{Root}
 use Rattle.trie.specs.declared.Step.{Step}
 use Rattle.trie.specs.declared.Step.the-variants.{At, Nothing, Damaged}
 use Rattle.trie.specs.declared.WordNumber.{WordNumber}
 use Rattle.trie.specs.declared.WordNumber.the-variants.{NoWord, Record, Bad}
-use Rattle.trie.specs.Trie.{CharTrie, SlotCount, wordNumber, testedStep, wordAt, trieOf}
+use Rattle.trie.specs.Trie.{CharTrie, SlotCount, testedStep, wordAt, trieOf}
 use Rattle.walk.specs.Walk.{Inside}
 use Rattle.walk.proofs.Places.{starts-inside, leads-tested}
 use Rattle.book.specs.Returns.{Book}
 use Rattle.book.specs.Prefixes.{Edge, Walked, ended, broken, metBefore, walkOn, wordsFrom}
+use Rattle.book.proofs.Held.{record-in-use}
 use Rattle.route.specs.Slices.{edgesFrom}
 use Rattle.sparse_dag.specs.declared.Prefixes.{Prefixes}
 use Rattle.sparse_dag.specs.declared.Prefixes.the-variants.{Edges, Full}
@@ -60,23 +59,6 @@ module _ (b : Book) (p : ParentRef) (next : ℕ) (cs : List ℕ) where
       on-word : onward ≡ metBefore b number (next + 1) (walkOn b q (next + 1) (drop (next + 1) cs))
       unfolding walkOn
       on-word = rw (split, ← step, at, walkOn, ← read)
-
--- a record at a place is one of those in use
-by-number : (used n : ℕ) (z : ℤ) → wordNumber used z ≡ Record n → n < used
-unfolding wordNumber
-by-number used n (pos k) e = go (ltb k used) refl e
-  where
-    go : (t : Bool) → ltb k used ≡ t → cond t (Record k) Bad ≡ Record n → n < used
-    go true below e = let same : k ≡ n = cc in omega (arith, ltb-true k used below)
-    go false below e = let z : _≡_ {A = ℕ} 0 1 = cc in absurd (omega arith)
-by-number used n (negsuc zero) e = let z : _≡_ {A = ℕ} 0 1 = cc in absurd (omega arith)
-by-number used n (negsuc (suc k)) e = let z : _≡_ {A = ℕ} 0 1 = cc in absurd (omega arith)
-
-record-in-use : (used n : ℕ) (t : CharTrie) (p : ParentRef) → wordAt used t p ≡ Record n → n < used
-unfolding wordAt
-record-in-use used n t Root e = let z : _≡_ {A = ℕ} 0 1 = cc in absurd (omega arith)
-record-in-use used n t (RootEntry i) e = by-number used n _ e
-record-in-use used n t (Slot i) e = by-number used n _ e
 
 -- ---- the loop
 
