@@ -1,0 +1,369 @@
+//! The library's six calls, over areas and slices. All unsafe code of the crate is here.
+//!
+//! What the library asks of its caller is what Rust asks of a slice, and each call below gives it. A pointer of a `Vec` or a
+//! slice is not null, is aligned, and is valid for the length given with it. Areas that are written are fields of a struct
+//! borrowed by `&mut`: different `Vec`s, so apart from each other, and apart from all that the call borrows besides. Nothing is
+//! kept after the return, and every pattern of bits is a value of the element types.
+use crate::{Areas, Scratch};
+
+#[repr(C)]
+pub(crate) struct Loaded {
+    pub(crate) number: u32,
+    pub(crate) line: usize,
+}
+
+#[repr(C)]
+pub(crate) struct Added {
+    pub(crate) number: u32,
+    pub(crate) frequency: u64,
+}
+
+#[repr(C)]
+pub(crate) struct Found {
+    pub(crate) number: u32,
+    pub(crate) held: u32,
+    pub(crate) frequency: u32,
+}
+
+#[repr(C)]
+pub(crate) struct Cut {
+    pub(crate) number: u32,
+    pub(crate) count: usize,
+}
+
+// The parameters of include/tongsvale.h, one for one.
+extern "C" {
+    fn tongsvale_prepare(
+        head: *mut u64,
+        head_length: usize,
+        root_children: *mut u32,
+        root_children_length: usize,
+        root_words: *mut i32,
+        root_words_length: usize,
+        keys: *mut u64,
+        keys_length: usize,
+        children: *mut u32,
+        children_length: usize,
+        words: *mut i32,
+        words_length: usize,
+        frequencies: *mut u32,
+        frequencies_length: usize,
+        logarithms: *mut f64,
+        logarithms_length: usize,
+    ) -> u32;
+
+    fn tongsvale_load(
+        head: *mut u64,
+        head_length: usize,
+        root_children: *mut u32,
+        root_children_length: usize,
+        root_words: *mut i32,
+        root_words_length: usize,
+        keys: *mut u64,
+        keys_length: usize,
+        children: *mut u32,
+        children_length: usize,
+        words: *mut i32,
+        words_length: usize,
+        frequencies: *mut u32,
+        frequencies_length: usize,
+        logarithms: *mut f64,
+        logarithms_length: usize,
+        text: *const u8,
+        text_length: usize,
+    ) -> Loaded;
+
+    fn tongsvale_add(
+        head: *mut u64,
+        head_length: usize,
+        root_children: *mut u32,
+        root_children_length: usize,
+        root_words: *mut i32,
+        root_words_length: usize,
+        keys: *mut u64,
+        keys_length: usize,
+        children: *mut u32,
+        children_length: usize,
+        words: *mut i32,
+        words_length: usize,
+        frequencies: *mut u32,
+        frequencies_length: usize,
+        logarithms: *mut f64,
+        logarithms_length: usize,
+        word: *const u8,
+        word_length: usize,
+        frequency: u64,
+    ) -> Added;
+
+    fn tongsvale_lookup(
+        head: *const u64,
+        head_length: usize,
+        root_children: *const u32,
+        root_children_length: usize,
+        root_words: *const i32,
+        root_words_length: usize,
+        keys: *const u64,
+        keys_length: usize,
+        children: *const u32,
+        children_length: usize,
+        words: *const i32,
+        words_length: usize,
+        frequencies: *const u32,
+        frequencies_length: usize,
+        logarithms: *const f64,
+        logarithms_length: usize,
+        word: *const u8,
+        word_length: usize,
+    ) -> Found;
+
+    fn tongsvale_cut(
+        head: *const u64,
+        head_length: usize,
+        root_children: *const u32,
+        root_children_length: usize,
+        root_words: *const i32,
+        root_words_length: usize,
+        keys: *const u64,
+        keys_length: usize,
+        children: *const u32,
+        children_length: usize,
+        words: *const i32,
+        words_length: usize,
+        frequencies: *const u32,
+        frequencies_length: usize,
+        logarithms: *const f64,
+        logarithms_length: usize,
+        sentence: *const u8,
+        sentence_length: usize,
+        chars: *mut u32,
+        chars_length: usize,
+        offsets: *mut u32,
+        offsets_length: usize,
+        starts: *mut usize,
+        starts_length: usize,
+        scores: *mut f64,
+        scores_length: usize,
+        ends: *mut u32,
+        ends_length: usize,
+        records: *mut u32,
+        records_length: usize,
+        edge_ends: *mut u32,
+        edge_ends_length: usize,
+        edge_records: *mut u32,
+        edge_records_length: usize,
+        tokens: *mut u32,
+        tokens_length: usize,
+    ) -> Cut;
+
+    fn tongsvale_cut_all(
+        head: *const u64,
+        head_length: usize,
+        root_children: *const u32,
+        root_children_length: usize,
+        root_words: *const i32,
+        root_words_length: usize,
+        keys: *const u64,
+        keys_length: usize,
+        children: *const u32,
+        children_length: usize,
+        words: *const i32,
+        words_length: usize,
+        frequencies: *const u32,
+        frequencies_length: usize,
+        logarithms: *const f64,
+        logarithms_length: usize,
+        sentence: *const u8,
+        sentence_length: usize,
+        chars: *mut u32,
+        chars_length: usize,
+        offsets: *mut u32,
+        offsets_length: usize,
+        tokens: *mut u32,
+        tokens_length: usize,
+    ) -> Cut;
+}
+
+/// Makes an empty book.
+pub(crate) fn prepare(book: &mut Areas) -> u32 {
+    // Sound: eight different `Vec`s, all borrowed by `&mut` for the call.
+    unsafe {
+        tongsvale_prepare(
+            book.head.as_mut_ptr(),
+            book.head.len(),
+            book.root_children.as_mut_ptr(),
+            book.root_children.len(),
+            book.root_words.as_mut_ptr(),
+            book.root_words.len(),
+            book.keys.as_mut_ptr(),
+            book.keys.len(),
+            book.children.as_mut_ptr(),
+            book.children.len(),
+            book.words.as_mut_ptr(),
+            book.words.len(),
+            book.frequencies.as_mut_ptr(),
+            book.frequencies.len(),
+            book.logarithms.as_mut_ptr(),
+            book.logarithms.len(),
+        )
+    }
+}
+
+/// Loads a dictionary text.
+pub(crate) fn load(book: &mut Areas, text: &[u8]) -> Loaded {
+    // Sound: the book's eight `Vec`s are borrowed by `&mut`, so `text` is none of them; it is only read.
+    unsafe {
+        tongsvale_load(
+            book.head.as_mut_ptr(),
+            book.head.len(),
+            book.root_children.as_mut_ptr(),
+            book.root_children.len(),
+            book.root_words.as_mut_ptr(),
+            book.root_words.len(),
+            book.keys.as_mut_ptr(),
+            book.keys.len(),
+            book.children.as_mut_ptr(),
+            book.children.len(),
+            book.words.as_mut_ptr(),
+            book.words.len(),
+            book.frequencies.as_mut_ptr(),
+            book.frequencies.len(),
+            book.logarithms.as_mut_ptr(),
+            book.logarithms.len(),
+            text.as_ptr(),
+            text.len(),
+        )
+    }
+}
+
+/// Adds a word.
+pub(crate) fn add(book: &mut Areas, word: &[u8], frequency: u64) -> Added {
+    // Sound: the book's eight `Vec`s are borrowed by `&mut`, so `word` is none of them; it is only read.
+    unsafe {
+        tongsvale_add(
+            book.head.as_mut_ptr(),
+            book.head.len(),
+            book.root_children.as_mut_ptr(),
+            book.root_children.len(),
+            book.root_words.as_mut_ptr(),
+            book.root_words.len(),
+            book.keys.as_mut_ptr(),
+            book.keys.len(),
+            book.children.as_mut_ptr(),
+            book.children.len(),
+            book.words.as_mut_ptr(),
+            book.words.len(),
+            book.frequencies.as_mut_ptr(),
+            book.frequencies.len(),
+            book.logarithms.as_mut_ptr(),
+            book.logarithms.len(),
+            word.as_ptr(),
+            word.len(),
+            frequency,
+        )
+    }
+}
+
+/// Looks a word up.
+pub(crate) fn lookup(book: &Areas, word: &[u8]) -> Found {
+    // Sound: nothing is written, and all slices are borrowed for the call.
+    unsafe {
+        tongsvale_lookup(
+            book.head.as_ptr(),
+            book.head.len(),
+            book.root_children.as_ptr(),
+            book.root_children.len(),
+            book.root_words.as_ptr(),
+            book.root_words.len(),
+            book.keys.as_ptr(),
+            book.keys.len(),
+            book.children.as_ptr(),
+            book.children.len(),
+            book.words.as_ptr(),
+            book.words.len(),
+            book.frequencies.as_ptr(),
+            book.frequencies.len(),
+            book.logarithms.as_ptr(),
+            book.logarithms.len(),
+            word.as_ptr(),
+            word.len(),
+        )
+    }
+}
+
+/// Cuts a sentence into words.
+pub(crate) fn cut(book: &Areas, sentence: &[u8], scratch: &mut Scratch) -> Cut {
+    // Sound: only the nine `Vec`s of `scratch` are written; they are borrowed by `&mut`, so book and sentence are none of them.
+    unsafe {
+        tongsvale_cut(
+            book.head.as_ptr(),
+            book.head.len(),
+            book.root_children.as_ptr(),
+            book.root_children.len(),
+            book.root_words.as_ptr(),
+            book.root_words.len(),
+            book.keys.as_ptr(),
+            book.keys.len(),
+            book.children.as_ptr(),
+            book.children.len(),
+            book.words.as_ptr(),
+            book.words.len(),
+            book.frequencies.as_ptr(),
+            book.frequencies.len(),
+            book.logarithms.as_ptr(),
+            book.logarithms.len(),
+            sentence.as_ptr(),
+            sentence.len(),
+            scratch.chars.as_mut_ptr(),
+            scratch.chars.len(),
+            scratch.offsets.as_mut_ptr(),
+            scratch.offsets.len(),
+            scratch.starts.as_mut_ptr(),
+            scratch.starts.len(),
+            scratch.scores.as_mut_ptr(),
+            scratch.scores.len(),
+            scratch.ends.as_mut_ptr(),
+            scratch.ends.len(),
+            scratch.records.as_mut_ptr(),
+            scratch.records.len(),
+            scratch.edge_ends.as_mut_ptr(),
+            scratch.edge_ends.len(),
+            scratch.edge_records.as_mut_ptr(),
+            scratch.edge_records.len(),
+            scratch.tokens.as_mut_ptr(),
+            scratch.tokens.len(),
+        )
+    }
+}
+
+/// Cuts a sentence into all the words that it holds.
+pub(crate) fn cut_all(book: &Areas, sentence: &[u8], scratch: &mut Scratch) -> Cut {
+    // Sound: only three `Vec`s of `scratch` are written; they are borrowed by `&mut`, so book and sentence are none of them.
+    unsafe {
+        tongsvale_cut_all(
+            book.head.as_ptr(),
+            book.head.len(),
+            book.root_children.as_ptr(),
+            book.root_children.len(),
+            book.root_words.as_ptr(),
+            book.root_words.len(),
+            book.keys.as_ptr(),
+            book.keys.len(),
+            book.children.as_ptr(),
+            book.children.len(),
+            book.words.as_ptr(),
+            book.words.len(),
+            book.frequencies.as_ptr(),
+            book.frequencies.len(),
+            book.logarithms.as_ptr(),
+            book.logarithms.len(),
+            sentence.as_ptr(),
+            sentence.len(),
+            scratch.chars.as_mut_ptr(),
+            scratch.chars.len(),
+            scratch.offsets.as_mut_ptr(),
+            scratch.offsets.len(),
+            scratch.tokens.as_mut_ptr(),
+            scratch.tokens.len(),
+        )
+    }
+}

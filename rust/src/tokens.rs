@@ -1,0 +1,68 @@
+use crate::calls::Cut;
+use crate::error::{self, Stopped};
+use crate::TOKEN_WIDTH;
+use std::slice::ChunksExact;
+
+/// A word of a sentence. Character offsets count scalar values.
+#[derive(Clone, Copy, Debug, PartialEq, Eq)]
+#[allow(missing_docs)]
+pub struct Token<'s> {
+    pub word: &'s str,
+    pub start: usize,
+    pub end: usize,
+    pub byte_start: usize,
+    pub byte_end: usize,
+}
+
+/// The tokens of a cut, in its order. They borrow the sentence, and the iterator borrows the token area.
+#[derive(Clone, Debug)]
+pub struct Tokens<'s, 't> {
+    sentence: &'s str,
+    numbers: ChunksExact<'t, u32>,
+}
+
+impl<'s> Iterator for Tokens<'s, '_> {
+    type Item = Token<'s>;
+
+    fn next(&mut self) -> Option<Token<'s>> {
+        let &[start, end, byte_start, byte_end] = self.numbers.next()? else {
+            unreachable!("chunks have the width of a token");
+        };
+        let (byte_start, byte_end) = (byte_start as usize, byte_end as usize);
+        Some(Token {
+            word: &self.sentence[byte_start..byte_end],
+            start: start as usize,
+            end: end as usize,
+            byte_start,
+            byte_end,
+        })
+    }
+
+    fn size_hint(&self) -> (usize, Option<usize>) {
+        self.numbers.size_hint()
+    }
+}
+
+impl ExactSizeIterator for Tokens<'_, '_> {}
+
+/// What a cut of a sentence returned.
+pub(crate) fn tokens_of<'s, 't>(cut: Cut, sentence: &'s str, area: &'t [u32]) -> Result<Tokens<'s, 't>, Stopped<'s, 't>> {
+    let tokens = Tokens { sentence, numbers: area[..cut.count * TOKEN_WIDTH].chunks_exact(TOKEN_WIDTH) };
+    match error::result_of(cut.number) {
+        Ok(()) => Ok(tokens),
+        Err(error) => Err(Stopped { error, tokens }),
+    }
+}
+
+/// What a cut of bytes returned. A cut that wrote a token has found them well formed; without one nothing is read of them.
+pub(crate) fn tokens_of_bytes<'s, 't>(
+    cut: Cut,
+    sentence: &'s [u8],
+    area: &'t [u32],
+) -> Result<Tokens<'s, 't>, Stopped<'s, 't>> {
+    let sentence = match cut.count {
+        0 => "",
+        _ => std::str::from_utf8(sentence).expect("a sentence that was cut is well formed"),
+    };
+    tokens_of(cut, sentence, area)
+}

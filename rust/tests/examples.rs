@@ -1,0 +1,143 @@
+//! Document 01's examples.
+mod common;
+use common::*;
+use tongsvale::{Dictionary, Error, Scratch, Token};
+
+#[test]
+fn book_a_is_cut() {
+    // Whether first characters stand in the root table or among the slots, no cut shows.
+    for dictionary in [book_a(), loaded(1, 32, 8, BOOK_A)] {
+        assert_eq!(cut(&dictionary, "打开灯"), (0, vec!["打开", "灯"]));
+        assert_eq!(cut(&dictionary, "打开客厅灯"), (0, vec!["打开", "客厅灯"]));
+        assert_eq!(cut_all(&dictionary, "打开客厅灯"), (0, vec!["打", "打开", "开", "客厅", "客厅灯", "厅灯", "灯"]));
+    }
+}
+
+#[test]
+fn book_a_is_looked_up() {
+    let dictionary = book_a();
+    for line in BOOK_A.lines() {
+        let (word, frequency) = line.split_once(' ').unwrap();
+        assert_eq!(dictionary.lookup(word.as_bytes()), Ok(Some(frequency.parse().unwrap())), "{word}");
+    }
+    for word in ["", "客", "厅", "打开灯", "a"] {
+        assert_eq!(dictionary.lookup(word.as_bytes()), Ok(None), "{word}");
+    }
+    assert_eq!(dictionary.areas().head, [8, 5, 11, 1024]);
+}
+
+#[test]
+fn a_tie_goes_to_the_larger_end() {
+    let tie = loaded(65_536, 16, 4, "甲 16\n乙 16\n甲乙 4\n丙 28\n");
+    assert_eq!(cut(&tie, "甲乙"), (0, vec!["甲乙"]));
+    let no_tie = loaded(65_536, 16, 4, "甲 16\n乙 16\n甲乙 3\n丙 29\n");
+    assert_eq!(cut(&no_tie, "甲乙"), (0, vec!["甲", "乙"]));
+}
+
+#[test]
+fn at_total_0_the_shortest_word_wins() {
+    let mut dictionary = loaded(65_536, 16, 3, "甲 0\n甲乙 0\n");
+    assert_eq!(cut(&dictionary, "甲乙"), (0, vec!["甲", "乙"]));
+    assert_eq!(dictionary.add_word("丙".as_bytes(), 1), Ok(1));
+    assert_eq!(cut(&dictionary, "甲乙"), (0, vec!["甲乙"]));
+}
+
+#[test]
+fn letters_join_and_cr_lf_is_one_token() {
+    let dictionary = Dictionary::with_sizes(1, 16, 1).unwrap();
+    assert_eq!(cut(&dictionary, "ab-1\r\n!"), (0, vec!["ab", "-", "1", "\r\n", "!"]));
+}
+
+#[test]
+fn tokens_have_both_kinds_of_offsets() {
+    let dictionary = book_a();
+    let mut scratch = Scratch::with_sizes(7, 7, 5);
+    let tokens = dictionary.cut("é!打开灯", &mut scratch).unwrap();
+    assert_eq!(tokens.len(), 4);
+    let expected = [("é", 0, 1, 0, 2), ("!", 1, 2, 2, 3), ("打开", 2, 4, 3, 9), ("灯", 4, 5, 9, 12)];
+    let expected = expected.map(|(word, start, end, byte_start, byte_end)| Token { word, start, end, byte_start, byte_end });
+    assert!(tokens.eq(expected));
+    // Bytes give the same.
+    assert!(dictionary.cut_bytes("é!打开灯".as_bytes(), &mut scratch).unwrap().eq(expected));
+    let all =
+        dictionary.cut_all_bytes("é打开".as_bytes(), &mut scratch).unwrap().map(|t| (t.start, t.end, t.byte_start, t.byte_end));
+    assert!(all.eq([(0, 1, 0, 2), (1, 2, 2, 5), (1, 3, 2, 8), (2, 3, 5, 8)]));
+}
+
+#[test]
+fn the_frame_of_cutlines() {
+    let dictionary = loaded(256, 1024, 256, "ab 1\n");
+    assert_eq!(cut(&dictionary, "abc!"), (0, vec!["ab", "c", "!"]));
+}
+
+#[test]
+fn sixteen_slots_take_twelve() {
+    let mut dictionary = Dictionary::with_sizes(1, 16, 16).unwrap();
+    for (taken, letter) in (b'a'..=b'l').enumerate() {
+        assert_eq!(dictionary.add_word(&[letter], 1), Ok(1), "slot {}", taken + 1);
+    }
+    assert_eq!(dictionary.areas().head, [12, 12, 13, 12]);
+    assert_eq!(unchanged(&mut dictionary, |d| d.add_word(b"m", 1)), Err(Error::SlotsFull));
+    assert_eq!(unchanged(&mut dictionary, |d| d.load(b"m 1")), at_line(1, Error::SlotsFull));
+    // A word that needs no slot still enters.
+    assert_eq!(dictionary.add_word(b"l", 5), Ok(5));
+}
+
+#[test]
+fn frequencies() {
+    let mut dictionary = Dictionary::with_sizes(1, 16, 4).unwrap();
+    assert_eq!(unchanged(&mut dictionary, |d| d.load(b"a +")), at_line(1, Error::BadFrequency));
+    assert_eq!(dictionary.load(b"a +7\nb\nc 007 more 8"), Ok(3));
+    assert_eq!(dictionary.lookup(b"a"), Ok(Some(7)));
+    assert_eq!(dictionary.lookup(b"b"), Ok(Some(0)));
+    assert_eq!(dictionary.lookup(b"c"), Ok(Some(7)));
+}
+
+#[test]
+fn logarithms() {
+    let mut dictionary = Dictionary::with_sizes(1, 16, 1).unwrap();
+    let expected = [(0, f64::NEG_INFINITY), (1, 0.0), (2, 16_777_216.0), (3, 26_591_258.0), (4_294_967_295, 536_870_911.0)];
+    for (frequency, logarithm) in expected {
+        assert_eq!(dictionary.add_word(b"a", frequency), Ok(frequency));
+        assert_eq!(dictionary.areas().logarithms, [logarithm], "L({frequency})");
+    }
+}
+
+#[test]
+fn what_a_scratch_held_plays_no_part() {
+    let dictionary = book_a();
+    for sentence in ["", "打开客厅灯", "打开,客厅灯 on/off"] {
+        let mut zeros = Scratch::with_sizes(64, 64, 64);
+        assert_eq!(cut(&dictionary, sentence), words(dictionary.cut(sentence, &mut zeros)));
+        // The same scratch again, as the first cut left it.
+        assert_eq!(cut(&dictionary, sentence), words(dictionary.cut(sentence, &mut zeros)));
+        assert_eq!(cut_all(&dictionary, sentence), words(dictionary.cut_all(sentence, &mut zeros)));
+    }
+}
+
+#[test]
+fn prepare_empties() {
+    let mut dictionary = book_a();
+    dictionary.prepare().unwrap();
+    let areas = dictionary.areas();
+    assert_eq!(areas.head, [0, 0, 1, 0]);
+    assert!(areas.root_children.iter().all(|&n| n == 0) && areas.root_words.iter().all(|&n| n == -1));
+    assert!(
+        areas.keys.iter().all(|&n| n == 0) && areas.children.iter().all(|&n| n == 0) && areas.words.iter().all(|&n| n == -1)
+    );
+    assert!(areas.frequencies.iter().all(|&n| n == 0) && areas.logarithms.iter().all(|&n| n == 0.0));
+    assert_eq!(dictionary.lookup("打".as_bytes()), Ok(None));
+}
+
+#[test]
+fn lines() {
+    let mut dictionary = Dictionary::with_sizes(1, 16, 4).unwrap();
+    assert_eq!(dictionary.load(b""), Ok(0));
+    assert_eq!(dictionary.load(b"\n \n"), Ok(2));
+    assert_eq!(dictionary.load("\u{3000}a\u{a0}1\r\n\nb 2".as_bytes()), Ok(3));
+    assert_eq!(dictionary.lookup(b"a"), Ok(Some(1)));
+    assert_eq!(dictionary.lookup(b"b"), Ok(Some(2)));
+    // A held word gets the new frequency, and the total follows.
+    assert_eq!(dictionary.load(b"a 5\n"), Ok(1));
+    assert_eq!(dictionary.areas().head, [2, 2, 3, 7]);
+}
