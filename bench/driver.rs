@@ -1,0 +1,207 @@
+//! Measures the static library beside the Rust, both in this process, on the same dictionary and text: `bench/run` builds and
+//! runs it.
+//!
+//!     driver DICTIONARY TEXT...
+//!
+//! The Rust is the unchanged one (jieba_ln). Its calls make their own vectors; ours write into areas that are lent and lent again.
+//! The two sides take turns, run by run, so that a busy machine hits both.
+
+#[path = "../oracle/library.rs"]
+mod library;
+
+use jieba_ln::Jieba;
+use library::{Book, Work};
+
+const RUNS: usize = 11;
+
+#[repr(C)]
+struct Timespec {
+    seconds: i64,
+    nanoseconds: i64,
+}
+
+unsafe extern "C" {
+    fn clock_gettime(clock: i32, time: *mut Timespec) -> i32;
+}
+
+/// The processor time that this thread has taken so far, in seconds: other programs' turns do not count.
+fn processor_time() -> f64 {
+    const CLOCK_THREAD_CPUTIME_ID: i32 = 3;
+    let mut time = Timespec { seconds: 0, nanoseconds: 0 };
+    assert_eq!(unsafe { clock_gettime(CLOCK_THREAD_CPUTIME_ID, &mut time) }, 0);
+    time.seconds as f64 + time.nanoseconds as f64 / 1e9
+}
+
+/// Seconds of processor time of each run of both sides, by turns.
+struct Times {
+    rust: Vec<f64>,
+    library: Vec<f64>,
+}
+
+fn measure(runs: usize, mut rust: impl FnMut() -> usize, mut library: impl FnMut() -> usize) -> Times {
+    let mut times = Times { rust: Vec::new(), library: Vec::new() };
+    for _ in 0..runs {
+        let start = processor_time();
+        let of_rust = rust();
+        let middle = processor_time();
+        let of_library = library();
+        let end = processor_time();
+        times.rust.push(middle - start);
+        times.library.push(end - middle);
+        assert_eq!(of_rust, of_library, "the two sides answered otherwise");
+    }
+    times.rust.sort_by(f64::total_cmp);
+    times.library.sort_by(f64::total_cmp);
+    times
+}
+
+impl Times {
+    /// One line: what each side does in a second at its best and in the middle, and how many times the Rust's speed ours is.
+    fn print(&self, name: &str, amount: f64, unit: &str) {
+        let middle = self.rust.len() / 2;
+        println!(
+            "{name:<28} Rust {:8.2} best {:8.2} median   library {:8.2} best {:8.2} median {unit}   ratio {:.2} best {:.2} median",
+            amount / self.rust[0],
+            amount / self.rust[middle],
+            amount / self.library[0],
+            amount / self.library[middle],
+            self.rust[0] / self.library[0],
+            self.rust[middle] / self.library[middle],
+        );
+    }
+}
+
+/// The library's areas for cutting sentences of at most so many bytes.
+struct Areas {
+    work: Work,
+    length: usize,
+    tokens: Vec<u32>,
+}
+
+impl Areas {
+    fn new(bytes: usize) -> Self {
+        Areas { work: Work::new(bytes, 4 * bytes), length: bytes + 1, tokens: vec![0; 4 * (2 * bytes + 16)] }
+    }
+
+    fn cut(&mut self, book: &Book, sentence: &str) -> usize {
+        let cut = book.cut(sentence.as_bytes(), &mut self.work, self.length, &mut self.tokens);
+        assert_eq!(cut.number, 0);
+        cut.count
+    }
+
+    fn cut_all(&mut self, book: &Book, sentence: &str) -> usize {
+        let cut = book.cut_all(sentence.as_bytes(), &mut self.work, self.length, &mut self.tokens);
+        assert_eq!(cut.number, 0);
+        cut.count
+    }
+}
+
+fn megabytes(bytes: usize) -> f64 {
+    bytes as f64 / 1e6
+}
+
+fn main() {
+    let arguments: Vec<String> = std::env::args().skip(1).collect();
+    let read = |path: &String| std::fs::read_to_string(path).expect("a file cannot be read");
+    let dict = read(&arguments[0]);
+
+    // Load: an empty book, then the dictionary.
+    let words = dict.lines().count();
+    let mut book = Book::prepare(65_536, 1_048_576, words + 1);
+    let mut rust = Jieba::empty();
+    let load = |book: &mut Book| {
+        let loaded = book.load(dict.as_bytes());
+        assert_eq!((loaded.number, loaded.line), (0, words));
+        book.head[0] as usize
+    };
+    let records = |rust: &Jieba| format!("{rust:?}").split(|c: char| !c.is_ascii_digit()).find_map(|s| s.parse().ok()).unwrap();
+    println!("dictionary: {words} lines, {} bytes; {RUNS} runs of each side by turns", dict.len());
+    let of_rust = |rust: &mut Jieba| {
+        *rust = Jieba::empty();
+        rust.load_dict(&mut dict.as_bytes()).unwrap();
+        records(rust)
+    };
+    let lent = measure(RUNS, || of_rust(&mut rust), || {
+        book.clear();
+        load(&mut book)
+    });
+    lent.print("load", megabytes(dict.len()), "MB/s");
+    let fresh = measure(RUNS, || of_rust(&mut rust), || {
+        book = Book::prepare(65_536, 1_048_576, words + 1);
+        load(&mut book)
+    });
+    fresh.print("load, areas made anew", megabytes(dict.len()), "MB/s");
+
+    // Each text line by line.
+    for path in &arguments[1..] {
+        let text = read(path);
+        let lines: Vec<&str> = text.lines().collect();
+        let longest = lines.iter().map(|line| line.len()).max().unwrap_or(0);
+        let mut areas = Areas::new(longest);
+        println!("text {}: {} lines, {} bytes", path.rsplit('/').next().unwrap(), lines.len(), text.len());
+        measure(
+            RUNS,
+            || lines.iter().map(|line| rust.cut(line, false).len()).sum(),
+            || lines.iter().map(|line| areas.cut(&book, line)).sum(),
+        )
+        .print("cut", megabytes(text.len()), "MB/s");
+        measure(
+            RUNS,
+            || lines.iter().map(|line| rust.cut_all(line).len()).sum(),
+            || lines.iter().map(|line| areas.cut_all(&book, line)).sum(),
+        )
+        .print("cut_all", megabytes(text.len()), "MB/s");
+    }
+
+    // One sentence of growing length, from the first text: the speed stays the same if the cost grows linearly.
+    let text = read(&arguments[1]);
+    for bytes in [1 << 10, 1 << 16, 1_000_000, 15_000_000] {
+        let mut sentence = text.repeat(bytes / text.len() + 1);
+        let mut end = bytes;
+        while !sentence.is_char_boundary(end) {
+            end -= 1;
+        }
+        sentence.truncate(end);
+        let times = (4_000_000 / bytes).max(1);
+        let runs = if bytes > 1 << 20 { 5 } else { RUNS };
+        let mut areas = Areas::new(bytes);
+        println!("one sentence of {} bytes, {times} times a run, {runs} runs", sentence.len());
+        let amount = megabytes(sentence.len() * times);
+        measure(
+            runs,
+            || (0..times).map(|_| rust.cut(&sentence, false).len()).sum(),
+            || (0..times).map(|_| areas.cut(&book, &sentence)).sum(),
+        )
+        .print("cut", amount, "MB/s");
+        measure(
+            runs,
+            || (0..times).map(|_| rust.cut_all(&sentence).len()).sum(),
+            || (0..times).map(|_| areas.cut_all(&book, &sentence)).sum(),
+        )
+        .print("cut_all", amount, "MB/s");
+    }
+
+    // Document 01's book A and short commands, in the areas that `cutlines` lends.
+    let entries = "打开 256\n开灯 256\n打 64\n开 64\n灯 128\n客厅 128\n客厅灯 64\n厅灯 64\n";
+    let commands = ["打开灯", "打开客厅灯", "开灯", "打开客厅灯，开灯。", "客厅灯 on", "打开灯-2"];
+    let mut rust = Jieba::empty();
+    rust.load_dict(&mut entries.as_bytes()).unwrap();
+    let mut book = Book::prepare(256, 1024, 256);
+    assert_eq!(book.load(entries.as_bytes()).number, 0);
+    let mut areas = Areas::new(1024);
+    let times = 100_000;
+    let amount = (times * commands.len()) as f64 / 1e6;
+    println!("book A, {} short commands, {times} times a run", commands.len());
+    measure(
+        RUNS,
+        || (0..times).map(|_| commands.iter().map(|c| rust.cut(c, false).len()).sum::<usize>()).sum(),
+        || (0..times).map(|_| commands.iter().map(|c| areas.cut(&book, c)).sum::<usize>()).sum(),
+    )
+    .print("cut", amount, "million/s");
+    measure(
+        RUNS,
+        || (0..times).map(|_| commands.iter().map(|c| rust.cut_all(c).len()).sum::<usize>()).sum(),
+        || (0..times).map(|_| commands.iter().map(|c| areas.cut_all(&book, c)).sum::<usize>()).sum(),
+    )
+    .print("cut_all", amount, "million/s");
+}

@@ -1,0 +1,835 @@
+//! Compares the static library with the Rust, answer by answer: `oracle/compare` builds and runs it.
+//!
+//!     compare                          made-up books and sentences
+//!     compare --dict FILE --text FILE  the same, then a real dictionary and a real text
+//!     compare --sample                 prints oracle/sample.txt
+//!
+//! The Rust that is compared has document 01's logarithm L in place of `ln` (jieba_l). The Rust as it is (jieba_ln) is only asked
+//! which sentences it cuts otherwise. Every made-up book and sentence comes from one fixed seed. The program ends with 1 if there
+//! was a difference.
+
+mod library;
+
+use library::{Book, Work};
+use std::collections::BTreeMap;
+use std::fmt::Write as _;
+use std::io::Write as _;
+use std::process::exit;
+use std::time::Instant;
+
+const SEED: u64 = 20_261_115;
+const GREATEST: u64 = 4_294_967_295;
+/// A number that no token of the compared sentences has, to see that later places keep what they held.
+const UNTOUCHED: u32 = 0xFFFF_FFF0;
+
+// ---- the Rust's side
+
+/// One build of the Rust. Tokens are flat, as in the library: character start and end, byte start and end.
+macro_rules! rust_side {
+    ($name:ident, $build:ident) => {
+        mod $name {
+            pub struct Rust($build::Jieba);
+
+            fn numbers(sentence: &str, tokens: Vec<$build::Token>) -> Vec<u32> {
+                let mut numbers = Vec::with_capacity(4 * tokens.len());
+                for token in tokens {
+                    assert_eq!(token.word, &sentence[token.byte_start..token.byte_end]);
+                    numbers.extend([token.start, token.end, token.byte_start, token.byte_end].map(|n| n as u32));
+                }
+                numbers
+            }
+
+            #[allow(dead_code)]
+            impl Rust {
+                pub fn empty() -> Self {
+                    Rust($build::Jieba::empty())
+                }
+
+                pub fn load(&mut self, text: &str) {
+                    self.0.load_dict(&mut text.as_bytes()).expect("the Rust refused a load");
+                }
+
+                pub fn add(&mut self, word: &str, frequency: u64) -> u64 {
+                    self.0.add_word(word, Some(frequency as usize), None) as u64
+                }
+
+                /// The records and the total, which the Rust shows only when it is printed for debugging.
+                pub fn records_and_total(&self) -> (u64, u64) {
+                    let shown = format!("{:?}", self.0);
+                    let mut numbers = shown.split(|c: char| !c.is_ascii_digit()).filter(|s| !s.is_empty());
+                    let mut next = || numbers.next().unwrap().parse().unwrap();
+                    (next(), next())
+                }
+
+                pub fn has_word(&self, word: &str) -> bool {
+                    self.0.has_word(word)
+                }
+
+                /// The frequency of a held word, which is private: what the total loses when the word gets frequency 0. The
+                /// word gets its frequency back.
+                pub fn frequency(&mut self, word: &str) -> u64 {
+                    let (_, before) = self.records_and_total();
+                    self.add(word, 0);
+                    let (_, after) = self.records_and_total();
+                    self.add(word, before - after);
+                    before - after
+                }
+
+                pub fn cut(&self, sentence: &str) -> Vec<u32> {
+                    numbers(sentence, self.0.cut(sentence, false))
+                }
+
+                pub fn cut_all(&self, sentence: &str) -> Vec<u32> {
+                    numbers(sentence, self.0.cut_all(sentence))
+                }
+
+                pub fn cut_for_search(&self, sentence: &str) -> Vec<u32> {
+                    numbers(sentence, self.0.cut_for_search(sentence, false))
+                }
+            }
+        }
+    };
+}
+
+rust_side!(with_l, jieba_l);
+rust_side!(with_ln, jieba_ln);
+
+// ---- books
+
+/// A call that enters words. Only calls that both sides accept are made.
+enum Call {
+    Load(String),
+    Add(String, u64),
+}
+
+/// A made-up book: its calls, and what they leave.
+#[derive(Default)]
+struct Plan {
+    name: String,
+    calls: Vec<Call>,
+    held: BTreeMap<String, u64>,
+    total: u64,
+}
+
+impl Plan {
+    fn new(name: String) -> Self {
+        Plan { name, ..Plan::default() }
+    }
+
+    /// Enters a word, with as much of its frequency as the total has room for.
+    fn enter(&mut self, word: &str, frequency: u64) -> u64 {
+        let old = self.held.get(word).copied().unwrap_or(0);
+        let frequency = frequency.min(GREATEST - (self.total - old));
+        self.total = self.total - old + frequency;
+        self.held.insert(word.to_string(), frequency);
+        frequency
+    }
+
+    fn add(&mut self, word: &str, frequency: u64) {
+        let frequency = if word.is_empty() { frequency } else { self.enter(word, frequency) };
+        self.calls.push(Call::Add(word.to_string(), frequency));
+    }
+
+    /// A load of plain lines.
+    fn load(&mut self, entries: &[(&str, u64)]) {
+        let mut text = String::new();
+        for &(word, frequency) in entries {
+            let frequency = self.enter(word, frequency);
+            writeln!(text, "{word} {frequency}").unwrap();
+        }
+        self.calls.push(Call::Load(text));
+    }
+
+    /// A load whose lines are written in every manner that is accepted.
+    fn load_oddly(&mut self, random: &mut Random, entries: &[(String, u64)]) {
+        let mut text = String::new();
+        for (i, (word, frequency)) in entries.iter().enumerate() {
+            while random.below(8) == 0 {
+                text.push_str(random.one_of(&["\n", " \n", "\r\n", "\u{3000}\t\n", "\u{85}\u{2028}\n"]));
+            }
+            let mut absent = random.below(10) == 0;
+            let frequency = self.enter(word, if absent { 0 } else { *frequency });
+            absent = absent && frequency == 0;
+            if random.below(6) == 0 {
+                text.push_str(random.one_of(&WHITE_SPACE));
+            }
+            text.push_str(word);
+            if !absent {
+                text.push_str(random.one_of(&WHITE_SPACE));
+                text.push_str(random.one_of(&["", "", "", "+", "0", "+000"]));
+                write!(text, "{frequency}").unwrap();
+                if random.below(3) == 0 {
+                    text.push_str(random.one_of(&[" n", "\u{A0}x y z", "\t-1 99999999999999999999"]));
+                }
+            }
+            if random.below(6) == 0 {
+                text.push_str(random.one_of(&WHITE_SPACE));
+            }
+            if i + 1 < entries.len() || random.below(2) == 0 {
+                text.push_str(random.one_of(&["\n", "\n", "\r\n"]));
+            }
+        }
+        self.calls.push(Call::Load(text));
+    }
+}
+
+const WHITE_SPACE: [&str; 16] = [
+    " ", "\t", " ", "\t", "\u{B}", "\u{C}", "\r", "  ", "\u{85}", "\u{A0}", "\u{1680}", "\u{2000}", "\u{200A}", "\u{202F}",
+    "\u{205F}", "\u{3000}",
+];
+
+/// One book of the library, with its sizes.
+struct Sized {
+    book: Book,
+    sizes: String,
+}
+
+// ---- numbers by chance, the same in every run
+
+struct Random(u64);
+
+impl Random {
+    fn next(&mut self) -> u64 {
+        self.0 = self.0.wrapping_add(0x9E37_79B9_7F4A_7C15);
+        let mut z = self.0;
+        z = (z ^ (z >> 30)).wrapping_mul(0xBF58_476D_1CE4_E5B9);
+        z = (z ^ (z >> 27)).wrapping_mul(0x94D0_49BB_1331_11EB);
+        z ^ (z >> 31)
+    }
+
+    fn below(&mut self, n: usize) -> usize {
+        (self.next() % n as u64) as usize
+    }
+
+    fn one_of<T: Copy>(&mut self, choices: &[T]) -> T {
+        choices[self.below(choices.len())]
+    }
+}
+
+// ---- the comparison
+
+#[derive(Default)]
+struct Comparison {
+    books: u64,
+    sized_books: u64,
+    sentences: u64,
+    calls: u64,
+    lookups: u64,
+    cuts: u64,
+    cuts_all: u64,
+    // A place for cut_for_search: its count, and a third comparison in `sentence`.
+    tokens: u64,
+    differences: u64,
+    work: Option<Work>,
+    lent: Vec<u32>,
+}
+
+impl Comparison {
+    fn difference(&mut self, plan: &Plan, sizes: &str, what: &str, rust: &dyn std::fmt::Debug, library: &dyn std::fmt::Debug) {
+        self.differences += 1;
+        println!("DIFFERENCE: book {}, {sizes}, {what}", plan.name);
+        println!("  Rust:    {rust:?}");
+        println!("  library: {library:?}");
+        if plan.held.len() < 50 {
+            for call in &plan.calls {
+                match call {
+                    Call::Load(text) => println!("  load {text:?}"),
+                    Call::Add(word, frequency) => println!("  add {word:?} {frequency}"),
+                }
+            }
+        }
+        if self.differences >= 20 {
+            println!("stopped after {} differences", self.differences);
+            exit(1);
+        }
+    }
+
+    /// The Rust's book of a plan.
+    fn rust_book(plan: &Plan) -> with_l::Rust {
+        let mut rust = with_l::Rust::empty();
+        for call in &plan.calls {
+            match call {
+                Call::Load(text) => rust.load(text),
+                Call::Add(word, frequency) => assert_eq!(rust.add(word, *frequency), if word.is_empty() { 0 } else { *frequency }),
+            }
+        }
+        assert_eq!(rust.records_and_total(), (plan.held.len() as u64, plan.total));
+        rust
+    }
+
+    /// The plan's book in these sizes, or nothing if its slots do not suffice.
+    fn library_book(&mut self, plan: &Plan, root: usize, slots: usize, records: usize) -> Option<Sized> {
+        let sizes = format!("{root} root entries, {slots} slots, {records} records");
+        let mut book = Book::prepare(root, slots, records);
+        for call in &plan.calls {
+            match call {
+                Call::Load(text) => {
+                    let loaded = book.load(text.as_bytes());
+                    if loaded.number == 7 {
+                        return None;
+                    }
+                    let lines = text.split_inclusive('\n').count();
+                    if (loaded.number, loaded.line) != (0, lines) {
+                        self.difference(plan, &sizes, "load", &(0, lines), &(loaded.number, loaded.line));
+                    }
+                }
+                Call::Add(word, frequency) => {
+                    let added = book.add(word.as_bytes(), *frequency);
+                    if added.number == 7 {
+                        return None;
+                    }
+                    let expected = if word.is_empty() { 0 } else { *frequency };
+                    if (added.number, added.frequency) != (0, expected) {
+                        self.difference(plan, &sizes, "add", &(0, expected), &(added.number, added.frequency));
+                    }
+                }
+            }
+        }
+        self.calls += plan.calls.len() as u64;
+        let expected = (plan.held.len() as u64, plan.total);
+        if (book.head[0], book.head[3]) != expected {
+            self.difference(plan, &sizes, "records and total", &expected, &(book.head[0], book.head[3]));
+        }
+        Some(Sized { book, sizes })
+    }
+
+    /// The plan's book in six sizes: three root tables, each with slots just enough and ample.
+    fn library_books(&mut self, plan: &Plan) -> Vec<Sized> {
+        let mut books = Vec::new();
+        let records = plan.held.len().max(1);
+        for root in [1, 256, 65_536] {
+            let mut slots = 16;
+            let book = loop {
+                if let Some(book) = self.library_book(plan, root, slots, records) {
+                    break book;
+                }
+                slots *= 2;
+            };
+            books.push(book);
+            books.push(self.library_book(plan, root, (slots * 16).min(4_194_304), records + 100).expect("ample slots"));
+        }
+        self.books += 1;
+        self.sized_books += books.len() as u64;
+        books
+    }
+
+    /// Compares one sentence in every size of a book.
+    fn sentence(&mut self, plan: &Plan, rust: &with_l::Rust, books: &[Sized], sentence: &str) {
+        let chars = sentence.chars().count();
+        let cut = rust.cut(sentence);
+        let cut_all = rust.cut_all(sentence);
+        let mut work = self.work.take().unwrap_or_else(|| Work::new(1024, 16_384));
+        work.reserve(chars, 16 * chars.min(100_000) + 3 * chars);
+        for (i, sized) in books.iter().enumerate() {
+            // Places exactly enough and more than enough, by turns.
+            let spare = (self.sentences as usize + i) % 2 * 3;
+            let length = chars + 1 + if spare > 0 && chars + 4 <= 1024 { 3 } else { 0 };
+
+            let mut lent = std::mem::take(&mut self.lent);
+            lent.clear();
+            lent.resize(cut.len() + 4 * spare, UNTOUCHED);
+            let answer = sized.book.cut(sentence.as_bytes(), &mut work, length, &mut lent);
+            self.cuts += 1;
+            self.check(plan, sized, "cut", sentence, &cut, &answer, &lent);
+
+            lent.clear();
+            lent.resize(cut_all.len() + 4 * spare, UNTOUCHED);
+            let answer = sized.book.cut_all(sentence.as_bytes(), &mut work, length, &mut lent);
+            self.cuts_all += 1;
+            self.check(plan, sized, "cut_all", sentence, &cut_all, &answer, &lent);
+            self.lent = lent;
+        }
+        self.tokens += ((cut.len() + cut_all.len()) / 4 * books.len()) as u64;
+        self.sentences += 1;
+        self.work = Some(work);
+    }
+
+    #[allow(clippy::too_many_arguments)]
+    fn check(&mut self, plan: &Plan, sized: &Sized, call: &str, sentence: &str, rust: &[u32], answer: &library::Cut, lent: &[u32]) {
+        let same = answer.number == 0
+            && answer.count * 4 == rust.len()
+            && lent[..rust.len()] == *rust
+            && lent[rust.len()..].iter().all(|&n| n == UNTOUCHED);
+        if !same {
+            let what = format!("{call} of {sentence:?}");
+            self.difference(plan, &sized.sizes, &what, &rust, &(answer.number, answer.count, lent));
+        }
+    }
+
+    /// Compares a word's frequency, or that it is absent, in every size of a book.
+    fn word(&mut self, plan: &Plan, rust: &mut with_l::Rust, books: &[Sized], word: &str) {
+        let expected = if rust.has_word(word) { (0, 1, rust.frequency(word)) } else { (0, 0, 0) };
+        let planned = plan.held.get(word).copied();
+        assert_eq!(planned, (expected.1 == 1).then_some(expected.2), "the Rust and the plan part at {word:?}");
+        for sized in books {
+            let found = sized.book.lookup(word.as_bytes());
+            let found = (found.number, found.held, found.frequency as u64);
+            self.lookups += 1;
+            if found != expected {
+                self.difference(plan, &sized.sizes, &format!("lookup of {word:?}"), &expected, &found);
+            }
+        }
+    }
+
+    /// Compares the words of a plan, their beginnings and some words that lie near.
+    fn words(&mut self, plan: &Plan, rust: &mut with_l::Rust, books: &[Sized]) {
+        self.word(plan, rust, books, "");
+        for word in plan.held.keys() {
+            self.word(plan, rust, books, word);
+            let last = word.chars().next_back().unwrap();
+            let beginning = &word[..word.len() - last.len_utf8()];
+            self.word(plan, rust, books, beginning);
+            self.word(plan, rust, books, &format!("{word}{last}"));
+            self.word(plan, rust, books, &format!("{beginning}丁"));
+        }
+    }
+
+    fn report(&self, part: &str, since: Instant) {
+        println!(
+            "{part}: {} books in {} sizes, {} sentences; {} cut, {} cut_all, {} lookup, {} load and add answers; {} tokens; {} differences; {:.1} s",
+            self.books, self.sized_books, self.sentences, self.cuts, self.cuts_all, self.lookups, self.calls, self.tokens,
+            self.differences, since.elapsed().as_secs_f64(),
+        );
+    }
+
+    fn answers(&self) -> u64 {
+        self.cuts + self.cuts_all + self.lookups + self.calls
+    }
+}
+
+// ---- every short sentence
+
+const ALPHABET: [char; 17] =
+    ['甲', '乙', '\u{20000}', 'a', 'B', '1', '.', '_', '-', '+', '#', '&', '%', '\r', '\n', ' ', '，'];
+
+/// Every sentence over an alphabet of at most so many characters.
+fn every_sentence(alphabet: &[char], longest: usize, mut each: impl FnMut(&str)) {
+    let mut sentence = String::new();
+    for length in 0..=longest {
+        let mut places = vec![0; length];
+        loop {
+            sentence.clear();
+            sentence.extend(places.iter().map(|&i| alphabet[i]));
+            each(&sentence);
+            let Some(last) = places.iter().rposition(|&i| i + 1 < alphabet.len()) else { break };
+            places[last] += 1;
+            places[last + 1..].fill(0);
+        }
+    }
+}
+
+/// Document 01's book A.
+fn book_a() -> Plan {
+    let mut plan = Plan::new("A".to_string());
+    plan.load(&[
+        ("打开", 256), ("开灯", 256), ("打", 64), ("开", 64), ("灯", 128), ("客厅", 128), ("客厅灯", 64), ("厅灯", 64),
+    ]);
+    plan
+}
+
+/// Books over the alphabet of the short sentences, and those of document 01's examples.
+fn short_books() -> Vec<Plan> {
+    let words = [
+        "甲", "甲乙", "乙甲", "甲乙甲", "\u{20000}", "甲\u{20000}", "\u{20000}\u{20000}", "a", "a1", "1", "1.1", "a-", "B_a", "甲a",
+        "a甲", "+#", "&", "#1", "-1", "%", "1%", "乙.", "._",
+    ];
+    let mut books = vec![Plan::new("empty".to_string())];
+
+    let mut plan = Plan::new("mixed".to_string());
+    plan.load(&words.iter().enumerate().map(|(i, &word)| (word, (i * i * 7 + 3) as u64)).collect::<Vec<_>>());
+    books.push(plan);
+
+    let mut plan = Plan::new("total 0".to_string());
+    plan.load(&words.map(|word| (word, 0)));
+    books.push(plan);
+
+    let mut plan = Plan::new("frequencies 0, total 1".to_string());
+    plan.load(&words.map(|word| (word, 0)));
+    plan.add("丙", 1);
+    books.push(plan);
+
+    let mut plan = Plan::new("ties".to_string());
+    for (i, word) in words.iter().enumerate() {
+        plan.add(word, 1 << (2 * (4 - word.chars().count()) + i % 2));
+    }
+    plan.add("丙", 4096 - plan.total);
+    books.push(plan);
+
+    let mut plan = Plan::new("all 1".to_string());
+    plan.load(&words.map(|word| (word, 1)));
+    books.push(plan);
+
+    let mut plan = Plan::new("one word of 2^32-1".to_string());
+    plan.load(&words.map(|word| (word, 0)));
+    plan.add("甲乙", GREATEST);
+    books.push(plan);
+
+    let mut plan = Plan::new("words outside the class".to_string());
+    for (i, word) in ["甲 乙", "\r\n", "a\n", "，", "甲，", " ", "\n1", "乙\r", "甲", "1 ", "a甲", "\u{20000}乙"].iter().enumerate() {
+        plan.add(word, (i as u64 + 1) * 11);
+    }
+    books.push(plan);
+
+    let mut plan = Plan::new("every pair".to_string());
+    let mut random = Random(SEED);
+    every_sentence(&ALPHABET, 2, |word| {
+        if !word.is_empty() {
+            plan.add(word, frequency_by_chance(&mut random) % 100_000);
+        }
+    });
+    books.push(plan);
+
+    books.push(book_a());
+    books
+}
+
+fn compare_short(comparison: &mut Comparison) {
+    for plan in short_books() {
+        let mut rust = Comparison::rust_book(&plan);
+        let books = comparison.library_books(&plan);
+        every_sentence(&ALPHABET, 4, |sentence| comparison.sentence(&plan, &rust, &books, sentence));
+        every_sentence(&['打', '开', '客', '厅', '灯', 'a'], 5, |sentence| comparison.sentence(&plan, &rust, &books, sentence));
+        comparison.words(&plan, &mut rust, &books);
+    }
+}
+
+// ---- books and sentences by chance
+
+/// Characters at the ends of every range that is treated apart: classes, white space, lengths in UTF-8, root tables.
+const BOUNDARY: [u32; 119] = [
+    0x0, 0x1, 0x8, 0x9, 0xA, 0xB, 0xC, 0xD, 0xE, 0x1C, 0x1F, 0x20, 0x21, 0x22, 0x23, 0x24, 0x25, 0x26, 0x27, 0x2A, 0x2B, 0x2C, 0x2D,
+    0x2E, 0x2F, 0x30, 0x39, 0x3A, 0x40, 0x41, 0x5A, 0x5B, 0x5E, 0x5F, 0x60, 0x61, 0x7A, 0x7B, 0x7F, 0x80, 0x84, 0x85, 0x86, 0x9F,
+    0xA0, 0xA1, 0xFF, 0x100, 0x7FF, 0x800, 0x167F, 0x1680, 0x1681, 0x180E, 0x1FFF, 0x2000, 0x200A, 0x200B, 0x2027, 0x2028, 0x2029,
+    0x202A, 0x202E, 0x202F, 0x2030, 0x205E, 0x205F, 0x2060, 0x2FFF, 0x3000, 0x3001, 0x33FF, 0x3400, 0x4DBF, 0x4DC0, 0x4DFF, 0x4E00,
+    0x4E01, 0x9FD5, 0x9FD6, 0x9FFF, 0xA000, 0xD7FF, 0xE000, 0xF8FF, 0xF900, 0xFAFF, 0xFB00, 0xFEFF, 0xFF0C, 0xFF10, 0xFF21, 0xFFFD,
+    0xFFFE, 0xFFFF, 0x10000, 0x1FFFF, 0x20000, 0x2A6DF, 0x2A6E0, 0x2A6FF, 0x2A700, 0x2B73F, 0x2B740, 0x2B81F, 0x2B820, 0x2CEAF,
+    0x2CEB0, 0x2EBEF, 0x2EBF0, 0x2F7FF, 0x2F800, 0x2FA1F, 0x2FA20, 0x30000, 0x3134F, 0x10FFFE, 0x10FFFF, 0x4E59,
+];
+
+fn boundary(random: &mut Random) -> char {
+    char::from_u32(random.one_of(&BOUNDARY)).unwrap()
+}
+
+fn any_character(random: &mut Random) -> char {
+    match random.below(8) {
+        0 | 1 => boundary(random),
+        2 => random.one_of(&ALPHABET),
+        3 => char::from_u32(0x20 + random.below(0x5F) as u32).unwrap(),
+        4 => char::from_u32(0x20000 + random.below(0x1000) as u32).unwrap(),
+        _ => char::from_u32(0x4E00 + random.below(0x200) as u32).unwrap(),
+    }
+}
+
+fn frequency_by_chance(random: &mut Random) -> u64 {
+    let power = 1u64 << random.below(33);
+    match random.below(10) {
+        0 => 0,
+        1 => 1,
+        2 => power.min(GREATEST),
+        3 => power - 1,
+        4 => (power + 1).min(GREATEST),
+        5 => GREATEST,
+        6 => random.next() >> 32,
+        _ => random.below(1000) as u64,
+    }
+}
+
+/// A book by chance, of one of seven kinds.
+fn plan_by_chance(random: &mut Random, number: usize, words: usize) -> (Plan, Vec<char>) {
+    let kind = number % 7;
+    let mut plan = Plan::new(format!("{number} by chance"));
+    let letters = if words > 100 { 400 } else { [8, 3, 4, 4, 20, 6, 5][kind] };
+    let characters: Vec<char> =
+        (0..letters).map(|_| if kind == 0 { boundary(random) } else { any_character(random) }).collect();
+    let frequency = |random: &mut Random| match kind {
+        1 => 1 << (2 * random.below(6)),
+        2 | 3 => 0,
+        6 => random.below(5) as u64,
+        _ if words > 100 => random.below(1_000_000) as u64,
+        _ => frequency_by_chance(random),
+    };
+    let mut entries = Vec::new();
+    for _ in 0..1 + random.below(words) + words / 2 {
+        let longest = if random.below(12) == 0 { 12 } else { 4 };
+        let length = 1 + random.below(longest);
+        let word: String = (0..length).map(|_| random.one_of(&characters)).collect();
+        let frequency = frequency(random);
+        entries.push((word, frequency));
+    }
+    // Loads take words without white space; additions take every word. Some words enter twice.
+    while !entries.is_empty() {
+        let together = 1 + random.below(entries.len());
+        let some: Vec<(String, u64)> = entries.drain(..together).collect();
+        if random.below(3) == 0 && words <= 100 {
+            for (word, frequency) in &some {
+                plan.add(word, *frequency);
+            }
+        } else {
+            let some: Vec<(String, u64)> =
+                some.into_iter().filter(|(word, _)| !word.contains(char::is_whitespace)).collect();
+            plan.load_oddly(random, &some);
+        }
+        if random.below(20) == 0 {
+            plan.add("", 5);
+        }
+    }
+    match kind {
+        // Ties: the total is a power of two, so that every logarithm is exact.
+        1 => plan.add("丙丁", (plan.total + 1).next_power_of_two() - plan.total),
+        3 => plan.add("丙丁", 1),
+        5 => plan.add("丙丁", GREATEST),
+        _ => {}
+    }
+    (plan, characters)
+}
+
+fn sentence_by_chance(random: &mut Random, held: &[&str], characters: &[char], pieces: usize) -> String {
+    let mut sentence = String::new();
+    for _ in 0..random.below(pieces + 1) {
+        match random.below(10) {
+            0 => sentence.push(any_character(random)),
+            1 => sentence.push_str(random.one_of(&["\r\n", "a1", "WES-5.4.5", "，", " ", "\n", "100%"])),
+            2..=4 => sentence.push(random.one_of(characters)),
+            _ if held.is_empty() => sentence.push(random.one_of(characters)),
+            _ => sentence.push_str(random.one_of(held)),
+        }
+    }
+    sentence
+}
+
+fn compare_by_chance(comparison: &mut Comparison, books: usize, words: usize, sentences: usize, otherwise: &mut Otherwise) {
+    let mut random = Random(SEED + words as u64);
+    for number in 0..books {
+        let (plan, characters) = plan_by_chance(&mut random, number, words);
+        let mut rust = Comparison::rust_book(&plan);
+        let books = comparison.library_books(&plan);
+        comparison.words(&plan, &mut rust, &books);
+        let held: Vec<&str> = plan.held.keys().map(String::as_str).collect();
+        // The Rust with the true ln is asked about every tenth book.
+        let asked = (number % 10 == 0).then(|| {
+            let mut true_ln = with_ln::Rust::empty();
+            for call in &plan.calls {
+                match call {
+                    Call::Load(text) => true_ln.load(text),
+                    Call::Add(word, frequency) => {
+                        true_ln.add(word, *frequency);
+                    }
+                }
+            }
+            true_ln
+        });
+        for i in 0..sentences {
+            let pieces = if i == 0 { 300 } else { 16 };
+            let sentence = sentence_by_chance(&mut random, &held, &characters, pieces);
+            comparison.sentence(&plan, &rust, &books, &sentence);
+            if let Some(true_ln) = &asked {
+                otherwise.ask(&plan, &rust, true_ln, &sentence);
+            }
+        }
+    }
+}
+
+// ---- sentences that the true ln cuts otherwise
+
+struct Otherwise {
+    asked: u64,
+    cut_otherwise: u64,
+    list: Box<dyn std::io::Write>,
+    named: String,
+}
+
+impl Otherwise {
+    fn ask(&mut self, plan: &Plan, rust: &with_l::Rust, true_ln: &with_ln::Rust, sentence: &str) {
+        self.asked += 1;
+        let with_l = rust.cut(sentence);
+        let with_ln = true_ln.cut(sentence);
+        if with_l == with_ln {
+            return;
+        }
+        self.cut_otherwise += 1;
+        if self.named != plan.name {
+            self.named.clone_from(&plan.name);
+            let held = if plan.held.len() < 100 { format!("{:?}", plan.held) } else { format!("{} words", plan.held.len()) };
+            writeln!(self.list, "book {}, total {}: {held}", plan.name, plan.total).unwrap();
+        }
+        writeln!(self.list, "  L  {}", readable(sentence, &with_l)).unwrap();
+        writeln!(self.list, "  ln {}", readable(sentence, &with_ln)).unwrap();
+    }
+
+    fn report(&mut self, part: &str) {
+        println!("{part}: with the true ln {} of {} sentences are cut otherwise", self.cut_otherwise, self.asked);
+        self.asked = 0;
+        self.cut_otherwise = 0;
+    }
+}
+
+/// Tokens with a bar between two, control characters escaped.
+fn readable(sentence: &str, tokens: &[u32]) -> String {
+    let words: Vec<String> =
+        tokens.chunks(4).map(|t| sentence[t[2] as usize..t[3] as usize].escape_debug().to_string()).collect();
+    words.join("|")
+}
+
+// ---- a real dictionary and a real text
+
+fn compare_real(comparison: &mut Comparison, dict: &str, text: &str, otherwise: &mut Otherwise) {
+    let mut plan = Plan::new(format!("{} lines of a real dictionary", dict.lines().count()));
+    for line in dict.lines() {
+        let mut fields = line.split_whitespace();
+        if let Some(word) = fields.next() {
+            let frequency = fields.next().map_or(0, |field| field.parse().unwrap());
+            assert_eq!(plan.enter(word, frequency), frequency, "the dictionary passes the greatest total");
+        }
+    }
+    plan.calls.push(Call::Load(dict.to_string()));
+    let mut rust = Comparison::rust_book(&plan);
+    let mut true_ln = with_ln::Rust::empty();
+    true_ln.load(dict);
+    let records = plan.held.len();
+    let books: Vec<Sized> = [(65_536, 1_048_576, records), (256, 1_048_576, records + 1), (1, 4_194_304, 1_048_576)]
+        .iter()
+        .map(|&(root, slots, records)| comparison.library_book(&plan, root, slots, records).expect("slots suffice"))
+        .collect();
+    comparison.books += 1;
+    comparison.sized_books += books.len() as u64;
+    println!("real dictionary: {records} words, total {}, {} slots used of 1048576", plan.total, books[0].book.head[1]);
+    comparison.words(&plan, &mut rust, &books);
+
+    let mut lines = 0;
+    for line in text.split_inclusive('\n') {
+        comparison.sentence(&plan, &rust, &books, line);
+        otherwise.ask(&plan, &rust, &true_ln, line);
+        lines += 1;
+    }
+    println!("real text: {lines} lines, {} bytes", text.len());
+
+    // The text as long sentences, up to the greatest length.
+    for length in [1000, 65_536, 1_000_000, 15_000_000, 16_777_215] {
+        let sentence = repeated(text, length);
+        comparison.sentence(&plan, &rust, &books[..1], &sentence);
+        otherwise.ask(&plan, &rust, &true_ln, &sentence);
+    }
+}
+
+/// The text, as often as needed, cut to the greatest whole number of characters of at most so many bytes.
+fn repeated(text: &str, length: usize) -> String {
+    let mut long = text.repeat(length / text.len() + 1);
+    let mut end = length;
+    while !long.is_char_boundary(end) {
+        end -= 1;
+    }
+    long.truncate(end);
+    long
+}
+
+// ---- the sample
+
+fn hexadecimal(bytes: &[u8]) -> String {
+    bytes.iter().map(|byte| format!("{byte:02x}")).collect()
+}
+
+/// Prints one answer of the Rust as a frame of document 01's `cutlines` and the line that answers it.
+fn print_answer(kind: u8, sentence: &str, tokens: &[u32]) {
+    let numbers: String = tokens.iter().map(|n| format!("{n:04x}")).collect();
+    println!("{kind:02x}{} 00{:04x}{numbers}", hexadecimal(sentence.as_bytes()), tokens.len() / 4);
+}
+
+fn print_sample() {
+    println!("# Made by `oracle/compare FOLDER --sample` (seed {SEED}); not edited by hand. The answers are those of the Rust");
+    println!("# (jieba-rs, commit bac49e65b8, with document 01's logarithm L in place of ln, HMM off), and of nothing of ours.");
+    println!("# `book` begins an empty book. Every other line is a frame of document 01's program `cutlines` (01 load, 02 cut,");
+    println!("# 03 cut_all, 04 cut_for_search, then the text in hexadecimal), a space, and the line that must answer it. Every");
+    println!("# book and sentence is within the areas that `cutlines` lends. A comment before the frames shows the cut.");
+    let mut random = Random(SEED);
+    let mut books = short_books();
+    books.retain(|plan| plan.held.len() < 100 && plan.calls.iter().all(|call| matches!(call, Call::Load(_))));
+    let mut example = |entries: &[(&str, u64)]| {
+        let mut plan = Plan::new("of an example".to_string());
+        plan.load(entries);
+        books.push(plan);
+    };
+    example(&[("甲", 16), ("乙", 16), ("甲乙", 4), ("丙", 28)]);
+    example(&[("甲", 16), ("乙", 16), ("甲乙", 3), ("丙", 29)]);
+    example(&[("甲", 0), ("甲乙", 0)]);
+    example(&[("甲", 0), ("甲乙", 0), ("丙", 1)]);
+    example(&[("WES", 1), ("WES-5.4.5", 1)]);
+    let mut number = 0;
+    while books.len() < 18 {
+        let (plan, _) = plan_by_chance(&mut random, number, 10);
+        number += 1;
+        if plan.held.len() >= 4 && plan.calls.iter().all(|call| matches!(call, Call::Load(text) if text.len() < 1024)) {
+            books.push(plan);
+        }
+    }
+    for plan in books {
+        let rust = Comparison::rust_book(&plan);
+        println!("book");
+        println!("# {}", plan.name);
+        for call in &plan.calls {
+            if let Call::Load(text) = call {
+                println!("01{} 00{:04x}", hexadecimal(text.as_bytes()), text.split_inclusive('\n').count());
+            }
+        }
+        let held: Vec<&str> = plan.held.keys().map(String::as_str).collect();
+        let mut sentences: Vec<String> = ["", "打开灯", "打开客厅灯", "甲乙", "WES-5.4.5", "ab-1\r\n!"].map(String::from).to_vec();
+        if !held.is_empty() {
+            let characters: Vec<char> = plan.held.keys().flat_map(|word| word.chars()).collect();
+            sentences.extend((0..3).map(|_| sentence_by_chance(&mut random, &held, &characters, 10)));
+        }
+        for sentence in sentences {
+            let cut = rust.cut(&sentence);
+            println!("# {}", if sentence.is_empty() { "the empty sentence".to_string() } else { readable(&sentence, &cut) });
+            print_answer(2, &sentence, &cut);
+            print_answer(3, &sentence, &rust.cut_all(&sentence));
+            print_answer(4, &sentence, &rust.cut_for_search(&sentence));
+        }
+    }
+}
+
+// ---- the program
+
+/// The lines of a file that are UTF-8.
+fn read(path: &str) -> String {
+    let bytes = std::fs::read(path).unwrap_or_else(|error| {
+        eprintln!("compare: {path}: {error}");
+        exit(2)
+    });
+    bytes.split_inclusive(|&byte| byte == b'\n').filter_map(|line| std::str::from_utf8(line).ok()).collect()
+}
+
+fn main() {
+    let arguments: Vec<String> = std::env::args().skip(1).collect();
+    let after = |name: &str| arguments.iter().position(|a| a == name).map(|i| arguments[i + 1].clone());
+    if arguments.iter().any(|a| a == "--sample") {
+        print_sample();
+        return;
+    }
+    let mut otherwise = Otherwise { asked: 0, cut_otherwise: 0, list: Box::new(std::io::sink()), named: String::new() };
+    if let Some(path) = after("--list") {
+        otherwise.list = Box::new(std::fs::File::create(path).expect("the list cannot be written"));
+    }
+    let mut all = (0, 0);
+    let mut part = |name: &str, run: &mut dyn FnMut(&mut Comparison)| {
+        let since = Instant::now();
+        let mut comparison = Comparison::default();
+        run(&mut comparison);
+        comparison.report(name, since);
+        all.0 += comparison.answers();
+        all.1 += comparison.differences;
+    };
+    println!("seed {SEED}");
+    part("every short sentence", &mut |c| compare_short(c));
+    part("small books by chance", &mut |c| compare_by_chance(c, 3000, 12, 30, &mut otherwise));
+    part("larger books by chance", &mut |c| compare_by_chance(c, 40, 3000, 200, &mut otherwise));
+    otherwise.report("every tenth book by chance");
+    match (after("--dict"), after("--text")) {
+        (Some(dict), Some(text)) => {
+            let (dict, text) = (read(&dict), read(&text));
+            part("real dictionary and text", &mut |c| compare_real(c, &dict, &text, &mut otherwise));
+            otherwise.report("real text");
+        }
+        _ => println!("real dictionary and text: not given, skipped"),
+    }
+    println!("{} answers compared, {} differences", all.0, all.1);
+    exit(if all.1 == 0 { 0 } else { 1 });
+}
