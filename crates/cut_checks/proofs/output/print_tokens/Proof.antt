@@ -1,0 +1,56 @@
+-- `cut_checks::output::print_tokens` is safe and ends: the index is at most the area's length, and the measure is what is left of it.
+-- Assumes nothing.
+use Prim.Native.Nat.{_≤_, _-_}
+use native.Mathlib.Omega.{arith}
+use borrow.Author.Needs.{needs}
+use Rattle.cut_checks.proofs.output.print_tokens.Statement.{statement}
+use Rattle.cut_checks.proofs.output.print_tokens.Tie as tie
+
+abbrev Inv-loop : tie.InvT-loop
+Inv-loop token-area tokens i₀ i = i ≤ 256
+
+abbrev μ-loop : tie.MeasureT-loop
+μ-loop token-area tokens i₀ i = 256 - i
+
+loop-holds : tie.Need-loop-holds Inv-loop μ-loop
+loop-holds c = search needs
+
+mul-print-place : tie.Need-mul-print-place Inv-loop μ-loop
+mul-print-place c = search needs
+
+element-copy-out-print-place : tie.Need-element-copy-out-print-place Inv-loop μ-loop
+element-copy-out-print-place c = search needs
+
+print-place-requires : tie.Need-print-place-requires Inv-loop μ-loop
+print-place-requires c κs = search needs
+
+add-i : tie.Need-add-i Inv-loop μ-loop
+add-i c = search needs
+
+loop-less : tie.Need-loop-less Inv-loop μ-loop
+loop-less c = omega arith
+
+loop-again : tie.Need-loop-again Inv-loop μ-loop
+loop-again c = omega arith
+
+returns : tie.Need-returns Inv-loop μ-loop
+returns c = search needs
+
+returns-2 : tie.Need-returns-2 Inv-loop μ-loop
+returns-2 c = search needs
+
+pub print-tokens-spec : {M : Type 1} → statement M
+print-tokens-spec =
+    tie.close
+    (tie.spec
+    Inv-loop
+    μ-loop
+    loop-holds
+    mul-print-place
+    element-copy-out-print-place
+    print-place-requires
+    add-i
+    loop-less
+    loop-again
+    returns
+    returns-2)

@@ -1,0 +1,56 @@
+// Whether areas of 64 places that held sevens still hold nothing else.
+
+// Of 32-bit numbers.
+pub fn is_sevens(s: &[u32; 64]) -> bool {
+    let mut i = 0;
+    while i < 64 {
+        if s[i] != 7 {
+            return false;
+        }
+        i += 1;
+    }
+    true
+}
+
+fn is_sevens_usize(s: &[usize; 64]) -> bool {
+    let mut i = 0;
+    while i < 64 {
+        if s[i] != 7 {
+            return false;
+        }
+        i += 1;
+    }
+    true
+}
+
+fn is_sevens_f64(s: &[f64; 64]) -> bool {
+    let mut i = 0;
+    while i < 64 {
+        if s[i] != 7.0 {
+            return false;
+        }
+        i += 1;
+    }
+    true
+}
+
+// Of a work area and an edge area.
+pub fn are_sevens(
+    chars: &[u32; 64],
+    offsets: &[u32; 64],
+    starts: &[usize; 64],
+    scores: &[f64; 64],
+    ends: &[u32; 64],
+    records: &[u32; 64],
+    edge_ends: &[u32; 64],
+    edge_records: &[u32; 64],
+) -> bool {
+    is_sevens(chars)
+        & is_sevens(offsets)
+        & is_sevens_usize(starts)
+        & is_sevens_f64(scores)
+        & is_sevens(ends)
+        & is_sevens(records)
+        & is_sevens(edge_ends)
+        & is_sevens(edge_records)
+}
