@@ -182,6 +182,13 @@ module _ (t : Tested) (work : ℕ) (area sentence : List ℕ) (o : Outcome) (tes
 
 -- ---- the length of an area of several slices
 
+-- by the test that the code makes
+pub second-is-shorter : (a b : ℕ) → b < a → b ≡ shorter a b
+second-is-shorter a b h = rw (lt-ltb b a h)
+
+pub first-is-shorter : (a b : ℕ) → a ≤ b → a ≡ shorter a b
+first-is-shorter a b h = rw (le-ltb b a h)
+
 pub shorter-first : (a b : ℕ) → shorter a b ≤ a
 shorter-first a b = by (ltb b a) refl
   where

@@ -72,6 +72,21 @@ same-length-9 c = search needs
 same-length-10 : tie.Need-same-length-10
 same-length-10 c = search needs
 
+shift-of-requires : tie.Need-shift-of-requires
+shift-of-requires c κs =
+    let begin = c .before .before in
+    let e = begin .before .before in
+    let d = e .before in
+    let c2 = d .before in
+    let b2 = c2 .before in
+    let a = b2 .before in
+    let args = a .before .before .before .before .before .before .before .before .before .before .before .before .before .before .before .before .args in
+    let book = bookOf (args .head) (trieOf (args .root-children .now) (args .root-words .now) (args .keys .now) (args .children .now) (args .words .now)) (args .frequencies .now) (args .logarithms .now) in
+    let room = roomOf (args .edge-ends .now) (args .edge-records .now) in
+    let work = work-found (args .chars .now) (args .offsets .now) (args .starts .now) (args .scores .now) (args .ends .now) (args .records .now) _ _ _ _ _ (a .shorter .ensures) (b2 .shorter2 .ensures) (c2 .shorter3 .ensures) (d .shorter4 .ensures) (e .shorter5 .ensures) in
+    let began = cut-begun book _ _ room _ (args .sentence .now) _ (begin .begin .ensures) work (sym (c .before .number-of .ensures) ∙ c .if1 .left) in
+    slot-count _ _ _ _ _ _ _ (began .sizes)
+
 returns : tie.Need-returns
 returns c =
     let begin = c .before .before in
@@ -96,21 +111,6 @@ returns c =
         same-edge-records = refl;
       },
     )
-
-shift-of-requires : tie.Need-shift-of-requires
-shift-of-requires c κs =
-    let begin = c .before .before in
-    let e = begin .before .before in
-    let d = e .before in
-    let c2 = d .before in
-    let b2 = c2 .before in
-    let a = b2 .before in
-    let args = a .before .before .before .before .before .before .before .before .before .before .before .before .before .before .before .before .args in
-    let book = bookOf (args .head) (trieOf (args .root-children .now) (args .root-words .now) (args .keys .now) (args .children .now) (args .words .now)) (args .frequencies .now) (args .logarithms .now) in
-    let room = roomOf (args .edge-ends .now) (args .edge-records .now) in
-    let work = work-found (args .chars .now) (args .offsets .now) (args .starts .now) (args .scores .now) (args .ends .now) (args .records .now) _ _ _ _ _ (a .shorter .ensures) (b2 .shorter2 .ensures) (c2 .shorter3 .ensures) (d .shorter4 .ensures) (e .shorter5 .ensures) in
-    let began = cut-begun book _ _ room _ (args .sentence .now) _ (begin .begin .ensures) work (sym (c .before .number-of .ensures) ∙ c .if1 .left) in
-    slot-count _ _ _ _ _ _ _ (began .sizes)
 
 cast-log : tie.Need-cast-log
 cast-log c =

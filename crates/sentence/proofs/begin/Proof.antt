@@ -1,5 +1,6 @@
 -- `sentence::begin` meets its contract: each `return` is the case of `cutWith` that the tests before it say. Assumes nothing.
 use mathlib.Core.Path.{sym, _∙_}
+use native.Mathlib.Omega.{arith}
 use borrow.Author.Needs.{needs}
 use borrow.Author.Tests.{not-true, not-false}
 use Rattle.book.proofs.Areas.{slots-most}
@@ -22,7 +23,7 @@ returns-3 : tie.Need-returns-3
 returns-3 c =
     let whole = c .before in
     let sized = whole .before in
-    too-long _ _ _ _ _ (sym (sized .before .is-allowed .ensures) ∙ not-false _ (sized .if1 .left)) (whole .if2 .left) (c .if3 .taken)
+    too-long _ _ _ _ _ (sym (sized .before .is-allowed .ensures) ∙ not-false _ (sized .if1 .left)) (whole .if2 .left) (omega (arith, c .if3))
 
 char-count-requires : tie.Need-char-count-requires
 char-count-requires c κs = search needs
@@ -49,8 +50,8 @@ returns-5 c =
     let short = counted .before in
     let whole = short .before in
     let sized = whole .before in
-    work-too-short _ _ _ _ _ (sym (sized .before .is-allowed .ensures) ∙ not-false _ (sized .if1 .left)) (whole .if2 .left) (short .if3 .left) _
-    (sym (read .count .given .1) ∙ counted .char-count .ensures) (c .if4 .taken)
+    work-too-short _ _ _ _ _ (sym (sized .before .is-allowed .ensures) ∙ not-false _ (sized .if1 .left)) (whole .if2 .left) (omega (arith, short .if3)) _
+    (sym (read .count .given .1) ∙ counted .char-count .ensures) (omega (arith, c .if4))
 
 is-head-damaged-requires : tie.Need-is-head-damaged-requires
 is-head-damaged-requires c κs =
@@ -66,8 +67,8 @@ returns-6 c =
     let short = counted .before in
     let whole = short .before in
     let sized = whole .before in
-    head-damaged _ _ _ _ _ (sym (sized .before .is-allowed .ensures) ∙ not-false _ (sized .if1 .left)) (whole .if2 .left) (short .if3 .left) _
-    (sym (read .count .given .1) ∙ counted .char-count .ensures) (roomy .if4 .left) (sym (tested .is-head-damaged .ensures) ∙ c .if5 .taken)
+    head-damaged _ _ _ _ _ (sym (sized .before .is-allowed .ensures) ∙ not-false _ (sized .if1 .left)) (whole .if2 .left) (omega (arith, short .if3)) _
+    (sym (read .count .given .1) ∙ counted .char-count .ensures) (omega (arith, roomy .if4)) (sym (tested .is-head-damaged .ensures) ∙ c .if5 .taken)
 
 returns-7 : tie.Need-returns-7
 returns-7 c =
@@ -78,8 +79,8 @@ returns-7 c =
     let short = counted .before in
     let whole = short .before in
     let sized = whole .before in
-    none-refused _ _ _ _ (sym (sized .before .is-allowed .ensures) ∙ not-false _ (sized .if1 .left)) (whole .if2 .left) (short .if3 .left) _
-    (sym (read .count .given .1) ∙ counted .char-count .ensures) (roomy .if4 .left) (sym (tested .is-head-damaged .ensures) ∙ c .if5 .left)
+    none-refused _ _ _ _ (sym (sized .before .is-allowed .ensures) ∙ not-false _ (sized .if1 .left)) (whole .if2 .left) (omega (arith, short .if3)) _
+    (sym (read .count .given .1) ∙ counted .char-count .ensures) (omega (arith, roomy .if4)) (sym (tested .is-head-damaged .ensures) ∙ c .if5 .left)
 
 pub begin-spec : {M : Type 1} → statement M
 begin-spec =
