@@ -3,13 +3,13 @@
 //!
 //!     driver DICTIONARY TEXT...
 //!
-//! The Rust is the unchanged one (jieba_ln). Its calls make their own vectors; ours write into areas that are lent and lent again.
+//! The Rust is the unchanged one (jieba_l). Its calls make their own vectors; ours write into areas that are lent and lent again.
 //! The two sides take turns, run by run, so that a busy machine hits both.
 
 #[path = "../oracle/library.rs"]
 mod library;
 
-use jieba_ln::Jieba;
+use jieba_l::Jieba;
 use library::{Book, Work};
 
 const RUNS: usize = 11;

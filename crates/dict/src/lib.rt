@@ -54,19 +54,32 @@ fn load_line(
             outcome: Outcome::BadFrequency,
             head,
         },
-        Line::Entry(start, end, frequency) => entry::load_entry(
-            head,
-            root_children,
-            root_words,
-            keys,
-            children,
-            words,
-            frequencies,
-            logarithms,
-            shift,
-            &line[start..end],
-            frequency,
-        ),
+        Line::Entry(start, end, frequency) => {
+            let entered = entry::load_entry(
+                head,
+                root_children,
+                root_words,
+                keys,
+                children,
+                words,
+                frequencies,
+                logarithms,
+                shift,
+                &line[start..end],
+                frequency,
+            );
+            let outcome = entered.outcome;
+            // Number by number: copied as a whole right after it was written, the head waits for the writes before it.
+            Entered {
+                outcome,
+                head: Head {
+                    records: entered.head.records,
+                    slots: entered.head.slots,
+                    next: entered.head.next,
+                    total: entered.head.total,
+                },
+            }
+        }
     }
 }
 

@@ -10,10 +10,10 @@ use denote.Enum.Declared.{tagOf}
 use types.Run.{OneOf}
 use lib.IntN.{ℤ}
 use lib.ListN.{length, drop}
-use Rattle.utf8.specs.declared.Character.{Character}
 use Rattle.utf8.specs.declared.Character.the-variants.{Char}
 use Rattle.utf8.specs.Characters.{characterAt}
-use Rattle.utf8.specs.Text.{charsOf}
+use Rattle.utf8.specs.Text.{charsOf, charsFrom}
+use Rattle.utf8.proofs.Positions.{inside, still-chars}
 use Rattle.trie.proofs.Step as Step·type
 use Rattle.trie.specs.declared.ParentRef.{ParentRef}
 use Rattle.trie.specs.declared.Step.{Step}
@@ -24,7 +24,7 @@ use Rattle.insert.specs.Claims.{SameLengths}
 use Rattle.insert.proofs.Lengths.{same-lengths, then-same, new-step-keeps}
 use Rattle.insert.proofs.NewSteps.{new-inside, extend-end, extend-steps-then-extends}
 use Rattle.insert.proofs.Inside.{inside-same, slots-same}
-use Rattle.insert.proofs.Words.{no-more, char-inside, one-more, still-well-formed}
+use Rattle.insert.proofs.Words.{no-more, one-more}
 
 -- ---- the extension by a word, by the step of its first character
 
@@ -50,34 +50,35 @@ module _ (t : CharTrie) (p : ParentRef) (c : ℕ) (cs word : List ℕ) (node : �
 pub record Extending (t₀ : CharTrie) (s : List ℕ) (number : ℤ) (goal t : CharTrie) (p : ParentRef) (at node : ℕ) : Type 0 where
   pub long : SameLengths t t₀
   pub inside : Inside (length (t₀ .rootChildren)) (length (t₀ .keys)) p
-  pub well-formed : IsSome (charsOf (drop at s))
+  pub well-formed : IsSome (charsFrom s at)
   pub room : node + (length s - at) < 2 ^ 32
   pub same : extend t p (characters (drop at s)) node number ≡ goal
 
 pub begins : (t : CharTrie) (s : List ℕ) (number : ℤ) (p : ParentRef) (at node : ℕ) → Inside (length (t .rootChildren)) (length (t .keys)) p → IsSome (charsOf (drop at s)) → node + length s < 2 ^ 32
     → Extending t s number (extend t p (characters (drop at s)) node number) t p at node
+unfolding charsFrom
 begins t s number p at node inside well-formed room = record { long = same-lengths t; inside = inside; well-formed = well-formed; room = omega arith; same = refl }
 
 module _ {t₀ : CharTrie} {s : List ℕ} {number : ℤ} {goal t : CharTrie} {p : ParentRef} {at node : ℕ} (here : Extending t₀ s number goal t p at node) where
   pub ends : (u : CharTrie) → length s ≤ at → u ≡ withWord t p number → u ≡ goal
   ends u past named = named ∙ sym (ap (λ (l : List ℕ). extend t p l node number) (no-more s at past) ∙ extend-end t p node number) ∙ here .same
 
-  module _ {r : Character} {c w : ℕ} (read : r ≡ characterAt s at) (char : r ≡ Char c w) {next : Step} {u : CharTrie} (made : stepped next u ≡ newStep t p c node) where
+  module _ {c w : ℕ} (read : characterAt s at ≡ Char c w) {next : Step} {u : CharTrie} (made : stepped next u ≡ newStep t p c node) where
     split : characters (drop at s) ≡ c ∷ characters (drop (at + w) s)
-    split = one-more s at r read (here .well-formed) c w char
+    split = one-more s at (here .well-formed) c w read
 
     pub stops : OneOf (1 ∷ 2 ∷ []) (tagOf Step·type.the-type next) → u ≡ goal
     stops other = extend-stops t p c _ _ node number split next u made other ∙ here .same
 
     pub goes-on : {q : ParentRef} → SlotCount (length (t₀ .keys)) → next ≡ At q → Extending t₀ s number goal u q (at + w) (node + 1)
     goes-on {q} allowed e =
-        let width = char-inside s at r read c w char in
+        let width = inside s at c w read in
         let room = here .room in
         let longer : SameLengths u t = rw (ap (λ (x : Stepped). x .trie) made) (new-step-keeps t p c node) in
         record {
           long = then-same longer (here .long);
           inside = inside-same _ _ _ _ q (sym (here .long .rootChildren)) (sym (here .long .keys)) (new-inside t p c node (slots-same _ _ (here .long .keys) allowed) next u q made e);
-          well-formed = still-well-formed s at r read (here .well-formed) c w char;
+          well-formed = still-chars s at (here .well-formed) c w read;
           room = omega arith;
           same = extend-on t p c _ _ node number split next u q made e ∙ here .same;
         }

@@ -8,10 +8,10 @@ use mathlib.Core.List.{List, [], _∷_}
 use mathlib.Core.Option.{IsSome}
 use lib.IntN.{ℤ}
 use lib.ListN.{length, drop}
-use Rattle.utf8.specs.declared.Character.{Character}
 use Rattle.utf8.specs.declared.Character.the-variants.{Char}
 use Rattle.utf8.specs.Characters.{characterAt}
-use Rattle.utf8.specs.Text.{charsOf}
+use Rattle.utf8.specs.Text.{charsOf, charsFrom}
+use Rattle.utf8.proofs.Positions.{still-chars}
 use Rattle.trie.specs.declared.ParentRef.{ParentRef}
 use Rattle.trie.specs.declared.ParentRef.the-variants.{Root}
 use Rattle.trie.specs.declared.Step.{Step}
@@ -23,7 +23,7 @@ use Rattle.insert.specs.Insert.{Inside, characters, MarkedTrie, marked, 
 use Rattle.insert.specs.Claims.{InsertMarksThenExtends}
 use Rattle.insert.proofs.Lengths.{bits-keep}
 use Rattle.insert.proofs.Inside.{root-inside, inside-same, slots-same, next-inside}
-use Rattle.insert.proofs.Words.{no-more, one-more, still-well-formed}
+use Rattle.insert.proofs.Words.{no-more, one-more}
 
 -- ---- the marks of a word, by the step of its first character
 
@@ -52,10 +52,11 @@ pub record Marking (rootChildren₀ keys₀ children₀ s rootChildren keys chil
   pub slots : length keys ≡ length keys₀
   pub child-slots : length children ≡ length children₀
   pub inside : Inside (length rootChildren₀) (length keys₀) p
-  pub well-formed : IsSome (charsOf (drop at s))
+  pub well-formed : IsSome (charsFrom s at)
   pub same : (rootWords words : List ℤ) → mark (trieOf rootChildren rootWords keys children words) p (characters (drop at s)) ≡ mark (trieOf rootChildren₀ rootWords keys₀ children₀ words) Root (characters s)
 
 pub begins : (rootChildren keys children s : List ℕ) → IsSome (charsOf s) → Marking rootChildren keys children s rootChildren keys children Root 0
+unfolding charsFrom
 begins rootChildren keys children s whole = record { entries = refl; slots = refl; child-slots = refl; inside = root-inside _ _; well-formed = whole; same = λ rootWords words. refl }
 
 -- what the function ensures, where it ends with r
@@ -66,15 +67,15 @@ Marks rootChildren₀ keys₀ children₀ s rootChildren keys children r =
 
 module _ {rootChildren₀ keys₀ children₀ s rootChildren keys children : List ℕ} {p : ParentRef} {at : ℕ} (here : Marking rootChildren₀ keys₀ children₀ s rootChildren keys children p at) where
   pub ends : length s ≤ at → Marks rootChildren₀ keys₀ children₀ s rootChildren keys children (UpTo p at)
-  unfolding Ready reachOf
+  unfolding Ready reachOf charsFrom
   ends past = ((here .inside, here .well-formed), λ rootWords words. mark-end _ p _ (no-more s at past) ∙ here .same rootWords words)
 
-  module _ {r : Character} {c w : ℕ} (read : r ≡ characterAt s at) (char : r ≡ Char c w) {next : Step} (opened : (rootWords words : List ℤ) → next ≡ openStep (trieOf rootChildren rootWords keys children words) p c) where
+  module _ {c w : ℕ} (read : characterAt s at ≡ Char c w) {next : Step} (opened : (rootWords words : List ℤ) → next ≡ openStep (trieOf rootChildren rootWords keys children words) p c) where
     split : characters (drop at s) ≡ c ∷ characters (drop (at + w) s)
-    split = one-more s at r read (here .well-formed) c w char
+    split = one-more s at (here .well-formed) c w read
 
     pub ends-absent : next ≡ Nothing → Marks rootChildren₀ keys₀ children₀ s rootChildren keys children (UpTo p at)
-    unfolding Ready reachOf
+    unfolding Ready reachOf charsFrom
     ends-absent e = ((here .inside, here .well-formed), λ rootWords words. mark-absent _ p c _ _ split next (opened rootWords words) e ∙ here .same rootWords words)
 
     pub ends-damaged : next ≡ Damaged → Marks rootChildren₀ keys₀ children₀ s rootChildren keys children Marked.Damaged
@@ -92,7 +93,7 @@ module _ {rootChildren₀ keys₀ children₀ s rootChildren keys children : Lis
             slots = ap (λ (t : CharTrie). length (t .keys)) (bits [] []) ∙ kept .keys ∙ here .slots;
             child-slots = ap (λ (t : CharTrie). length (t .children)) (bits [] []) ∙ kept .children ∙ here .child-slots;
             inside = inside-same _ _ _ _ q (sym (here .entries)) (sym (here .slots)) below;
-            well-formed = still-well-formed s at r read (here .well-formed) c w char;
+            well-formed = still-chars s at (here .well-formed) c w read;
             same = λ rootWords words. mark-there _ p c _ _ split next (opened rootWords words) q _ e (bits rootWords words) ∙ here .same rootWords words;
           }
 

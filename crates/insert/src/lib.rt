@@ -23,7 +23,6 @@ ghost use Rattle.insert.specs.Insert.{characters, Inside, Sizes, marked,
 use trie::ParentRef;
 use trie::Probe;
 use trie::Step;
-use utf8::Character;
 
 // 2^24: a child's node is what is below it.
 const NODES: u32 = 0x100_0000;
@@ -205,14 +204,12 @@ fn mark(
     let mut place = ParentRef::Root;
     let mut at: usize = 0;
     while at < s.len() {
-        let Character::Char(ch, width) = utf8::read_char(s, at) else {
-            return Marked::Damaged;
-        };
-        match open_step(root_children, keys, children, shift, place, ch) {
-            Step::At(next) => {
-                set_bits(root_children, keys, children, place, ch);
-                place = next;
-                at += width;
+        let next = utf8::next_char(s, at);
+        match open_step(root_children, keys, children, shift, place, next.value) {
+            Step::At(child) => {
+                set_bits(root_children, keys, children, place, next.value);
+                place = child;
+                at += next.width;
             }
             Step::Nothing => return Marked::UpTo(place, at),
             Step::Damaged => return Marked::Damaged,
@@ -280,9 +277,7 @@ fn extend(
         ⌝ }
 {
     while at < s.len() {
-        let Character::Char(ch, width) = utf8::read_char(s, at) else {
-            return;
-        };
+        let next = utf8::next_char(s, at);
         let step = new_step(
             root_children,
             root_words,
@@ -291,14 +286,14 @@ fn extend(
             words,
             shift,
             place,
-            ch,
+            next.value,
             node,
         );
-        let Step::At(next) = step else {
+        let Step::At(child) = step else {
             return;
         };
-        place = next;
-        at += width;
+        place = child;
+        at += next.width;
         node += 1;
     }
     set_word(root_words, words, place, number);

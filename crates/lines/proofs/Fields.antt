@@ -10,11 +10,11 @@ use native.Mathlib.Nat.{add-zero, add-assoc}
 use native.Mathlib.Omega.{arith}
 use lib.ListN.{length, take, drop}
 use Rattle.classes.specs.WhiteSpace.{whiteSpace}
-use Rattle.utf8.specs.declared.Character.the-variants.{Char, Malformed}
+use Rattle.utf8.specs.declared.Character.the-variants.{Char}
 use Rattle.utf8.specs.Characters.{characterAt}
 use Rattle.utf8.specs.Encoding.{encode, byteLength}
 use Rattle.utf8.specs.Text.{before, charsOf, charsFrom}
-use Rattle.utf8.proofs.Positions.{from-char, from-malformed, from-end, width-of, byte-length-cons, from-second, first-bytes, within-text, none-left}
+use Rattle.utf8.proofs.Positions.{from-char, from-end, width-of, byte-length-cons, from-second, first-bytes, within-text, none-left}
 use Rattle.lines.specs.declared.Field.{Field}
 use Rattle.lines.specs.declared.Field.the-variants.{Missing, At}
 use Rattle.lines.specs.Lines.{onto, takeWhile, dropWhile, pieces, nonEmpty, fieldsOf, past, spaceIs, fieldPlaced, fieldAt}
@@ -32,22 +32,22 @@ take-drop-while p (c ∷ cs) = go (p c) refl (take-drop-while p cs)
 -- ---- stepping over them
 
 module _ (p : ℕ → Bool) (s : List ℕ) (at : ℕ) where
-  past-more : (c : ℕ) (w : ℕ) (o : Option (List ℕ)) → length (encode c) ≡ w → IsSome (before c o) → p c ≡ true → (past p (at + w) o ≡ past p at (before c o)) × IsSome o
+  past-more : (c w : ℕ) (o : Option (List ℕ)) → length (encode c) ≡ w → IsSome (before c o) → p c ≡ true → past p (at + w) o ≡ past p at (before c o)
   past-more c w none l h e = absurd h
   past-more c w (some cs) l h e =
       let q : length (encode c) + byteLength (takeWhile p cs) ≡ byteLength (c ∷ takeWhile p cs) = sym (byte-length-cons c (takeWhile p cs)) in
-      (rw e (omega arith), tt)
+      rw e (omega arith)
 
   past-none : (c : ℕ) (o : Option (List ℕ)) → IsSome (before c o) → p c ≡ false → at ≡ past p at (before c o)
   unfolding byteLength
   past-none c none h e = absurd h
   past-none c (some cs) h e = rw e (omega arith)
 
-  module _ (c w : ℕ) (r : characterAt s at ≡ Char c w) (h : IsSome (charsFrom s at)) where
+  module _ (h : IsSome (charsFrom s at)) (c w : ℕ) (r : characterAt s at ≡ Char c w) where
     first : charsFrom s at ≡ before c (charsFrom s (at + w))
     first = from-char s at c w r
 
-    pub pass : p c ≡ true → (past p (at + w) (charsFrom s (at + w)) ≡ past p at (charsFrom s at)) × IsSome (charsFrom s (at + w))
+    pub pass : p c ≡ true → past p (at + w) (charsFrom s (at + w)) ≡ past p at (charsFrom s at)
     pass e = rw first (past-more c w (charsFrom s (at + w)) (width-of s at c w r) (rw first at h) e)
 
     pub stop : p c ≡ false → at ≡ past p at (charsFrom s at)
@@ -56,9 +56,6 @@ module _ (p : ℕ → Bool) (s : List ℕ) (at : ℕ) where
   pub stop-end : length s ≤ at → at ≡ past p at (charsFrom s at)
   unfolding byteLength
   stop-end h = rw (from-end s at h) (omega arith)
-
-pub well-formed : (s : List ℕ) (at : ℕ) → IsSome (charsFrom s at) → characterAt s at ≡ Malformed → ⊥
-well-formed s at h e = rw (from-malformed s at e) at h
 
 -- the code's test: whether a character is white space, compared with what is to be skipped
 pub alike : (r b : Bool) (c : ℕ) → r ≡ whiteSpace c → not (Bool·beq r b) ≡ false → spaceIs b c ≡ true

@@ -9,7 +9,6 @@ ghost use lib.ListN.{length};
 ghost use Rattle.utf8.specs.Text.{charsFrom};
 ghost use Rattle.lines.specs.Lines.{lineEnd, past, spaceIs, fieldAt, numberAt, frequencyOf, lineOf};
 use utf8::CharCount;
-use utf8::Character;
 
 // A field of a line, from where to where it stands.
 pub enum Field {
@@ -56,20 +55,11 @@ fn skip(s: &[u8], at: usize, space: bool) -> usize
 {
     let mut end = at;
     while end < s.len() {
-        match utf8::read_char(s, end) {
-            Character::Char(c, w) => {
-                if classes::is_white_space(c) != space {
-                    return end;
-                }
-                end += w;
-            }
-            Character::Malformed => {
-                return end;
-            }
-            Character::End => {
-                return end;
-            }
+        let next = utf8::next_char(s, end);
+        if classes::is_white_space(next.value) != space {
+            return end;
         }
+        end += next.width;
     }
     end
 }

@@ -1,7 +1,7 @@
 -- A run that is being recorded: the loop of `next_recording`.
 -- What is kept at each turn is `Recording`: the text from the run's start is the characters recorded, all of one kind, and then the text from the
--- position reached; and the slices have these characters and where each of them starts. A turn reads one character, of the same kind. Where the text
--- ends, or its next character is of the other kind, what is recorded is the text's first block.
+-- position reached; and the slices have these characters and where each of them starts. A turn reads one character, of the same kind, which
+-- before the first character is any. Where the text ends, or its next character is of the other kind, what is recorded is the text's first block.
 -- Assumes nothing.
 use Prim.Native.Nat.{ℕ, suc, _+_, _^_, _≤_, _<_}
 use mathlib.Core.Bool.{Bool, true, not, Bool·beq}
@@ -17,8 +17,7 @@ use Rattle.utf8.specs.declared.Character.the-variants.{Char}
 use Rattle.utf8.specs.Characters.{characterAt}
 use Rattle.utf8.specs.Text.{before, charsFrom}
 use Rattle.utf8.specs.Encoding.{encode, byteLength}
-use Rattle.utf8.proofs.Positions.{from-char, from-end, inside, width-of, byte-length-append, byte-length-cons}
-use Rattle.walk.proofs.Characters.{value-below, still-chars}
+use Rattle.utf8.proofs.Positions.{from-char, from-end, inside, width-of, byte-length-append, byte-length-cons, value-below, still-chars}
 use Rattle.score.proofs.Tests.{by-leb}
 use Rattle.cuts.specs.Slices.{Characters}
 use Rattle.splitter.specs.Runs.{textFrom, Recorded}
@@ -206,3 +205,30 @@ module _ (class : ℕ → Bool) (s : List ℕ) (at : ℕ) (matched : Bool) where
             characters = so-far .characters;
             offset = λ i last. offset-all i (omega (arith, taken));
           }
+
+-- ---- the kind of the run
+
+module _ (class : ℕ → Bool) (s : List ℕ) (at : ℕ) (matched kind : Bool) (n end : ℕ) (chars offsets : List ℕ)
+    (so-far : Recording class s at matched n end chars offsets) where
+  -- what is recorded is of a kind too, if its characters are
+  with-kind : OfKind class kind (take n chars) → Recording class s at kind n end chars offsets
+  with-kind of-kind =
+      record {
+        inside-text = so-far .inside-text;
+        well-formed = so-far .well-formed;
+        text = so-far .text;
+        counted = so-far .counted;
+        kind = of-kind;
+        bytes = so-far .bytes;
+        chars-long = so-far .chars-long;
+        offsets-long = so-far .offsets-long;
+        characters = so-far .characters;
+        offset = so-far .offset;
+      }
+
+  -- where nothing is read, of any kind
+  pub of-any-kind : n ≤ 0 → Recording class s at kind n end chars offsets
+  of-any-kind none-read = with-kind (let zero : n ≡ 0 = omega arith in rw zero (none-of-kind class kind))
+
+  pub of-same-kind : kind ≡ matched → Recording class s at kind n end chars offsets
+  of-same-kind same = rw same so-far

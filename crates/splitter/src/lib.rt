@@ -50,17 +50,18 @@ pub fn next_recording(
     requires { ⌜ (length (textFrom (now s) at) < length (now chars)) × (length (textFrom (now s) at) < length (now offsets)) ⌝ }
     ensures { λ r. ⌜ Recorded (classOf class) (now (s .entry)) at r (now (chars .exit)) (now (offsets .exit)) ⌝ }
 {
-    let first = walk::next_char(s, at);
-    let matched = classify(class, first.value);
-    chars[0] = first.value;
-    offsets[0] = at as u32;
-    let mut n: usize = 1;
-    let mut end = at + first.width;
+    let mut matched = false;
+    let mut n: usize = 0;
+    let mut end = at;
     while end < s.len() {
-        let next = walk::next_char(s, end);
-        if classify(class, next.value) != matched {
+        let next = utf8::next_char(s, end);
+        let of_class = classify(class, next.value);
+        // The first character says of which kind the run is. It is read here, as the others are, and not before the loop:
+        // `classify` is called in one place, and so inlined.
+        if n > 0 && of_class != matched {
             break;
         }
+        matched = of_class;
         chars[n] = next.value;
         offsets[n] = end as u32;
         n += 1;

@@ -2,8 +2,9 @@
 -- Assumes nothing.
 use mathlib.Core.Path.{_≡_, refl, sym, ap, _∙_}
 use mathlib.Core.List.{List, [], _∷_, _++_, append-assoc}
-use mathlib.Core.Option.{Option, none, some}
-use Prim.Native.Nat.{ℕ, suc, _+_, _-_, _≤_, _<_}
+use mathlib.Core.Logic.{⊎-elim}
+use mathlib.Core.Option.{Option, none, some, IsSome}
+use Prim.Native.Nat.{ℕ, suc, _+_, _-_, _^_, _≤_, _<_}
 use native.Mathlib.Nat.{add-zero}
 use native.Mathlib.Omega.{arith}
 use lib.ListN.{length, take, drop, length-append, length-drop, drop-of-length-le}
@@ -44,6 +45,11 @@ module _ (s : List ℕ) (at : ℕ) where
   unfolding characterAt
   width-of c w e = reads-only-encodings (drop at s) c w e .1
 
+  -- a scalar value has 21 bits
+  pub value-below : (c w : ℕ) → characterAt s at ≡ Char c w → c < 2 ^ 21
+  unfolding characterAt
+  value-below c w e = ⊎-elim (λ low. omega arith) (λ high. omega arith) (reads-only-encodings (drop at s) c w e .0)
+
   -- the end is not met within the text
   pub not-within : characterAt s at ≡ End → length s ≤ at
   unfolding characterAt
@@ -51,6 +57,14 @@ module _ (s : List ℕ) (at : ℕ) where
       let l : length (drop at s) ≡ length s - at = length-drop at s in
       let n : length (drop at s) ≡ 0 = ap length (end-nil (drop at s) e) in
       omega arith
+
+  -- where the text is well formed from here on, it is after the character that is read here
+  pub still-chars : IsSome (charsFrom s at) → (c w : ℕ) → characterAt s at ≡ Char c w → IsSome (charsFrom s (at + w))
+  still-chars some-chars c w e = later (charsFrom s (at + w)) (rw (from-char c w e) at some-chars)
+    where
+      later : (rest : Option (List ℕ)) → IsSome (before c rest) → IsSome rest
+      later none some-there = absurd some-there
+      later (some cs) some-there = tt
 
 pub from-start : (s : List ℕ) → charsFrom s 0 ≡ charsOf s
 unfolding charsFrom

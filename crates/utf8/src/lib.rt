@@ -4,9 +4,13 @@
 //! RFC 3629 does not allow is malformed, overlong forms and surrogates among them.
 ghost use mathlib.Core.Path.{_≡_};
 ghost use mathlib.Core.List.{List, _∷_};
-ghost use Prim.Native.Nat.{ℕ, _<_, _≤_};
+ghost use mathlib.Core.Option.{IsSome};
+ghost use Prim.Native.Nat.{ℕ, _+_, _*_, _<_, _≤_};
+ghost use lib.ListN.{length};
+ghost use Rattle.utf8.specs.declared.Character.the-variants.{Char};
 ghost use Rattle.utf8.specs.Characters.{readFrom, characterAt};
-ghost use Rattle.utf8.specs.Text.{charsOf, countOf};
+ghost use Rattle.utf8.specs.Tails.{Tail, TailAt};
+ghost use Rattle.utf8.specs.Text.{charsOf, charsFrom, countOf};
 
 // What stands at a position of a text.
 pub enum Character {
@@ -16,6 +20,12 @@ pub enum Character {
     Malformed,
     // The text's end, or beyond.
     End,
+}
+
+// A character's scalar value, and how many bytes it takes.
+pub struct NextChar {
+    pub value: u32,
+    pub width: usize,
 }
 
 // How many characters a text has.
@@ -30,94 +40,127 @@ fn wide(b: u8) -> u32
     b as u32
 }
 
-// A lead byte from 0x80 to 0xDF, and the byte after it.
-fn two_bytes(b0: u32, b1: u32) -> Character
-    requires { ⌜ (0x80 ≤ b0) × (b0 < 0xE0) × (b1 < 0x100) ⌝ }
-    ensures { λ r. ⌜ ((rest : List ℕ) → r ≡ readFrom (b0 ∷ b1 ∷ rest)) ⌝ }
+// The byte at a position where it is UTF8-tail, from 0x80 to 0xBF; 0 where none stands there.
+fn tail_at(s: &[u8], at: usize) -> u32
+    ensures { λ r. ⌜ TailAt (now (s .entry)) at r ⌝ }
 {
-    if b1 / 0x40 != 2 {
-        return Character::Malformed;
+    if at < s.len() {
+        let b = wide(s[at]);
+        if b / 0x40 == 2 {
+            return b;
+        }
     }
-    if b0 < 0xC2 {
-        return Character::Malformed;
-    }
-    Character::Char((b0 - 0xC0) * 0x40 + (b1 - 0x80), 2)
+    0
 }
 
-// A lead byte from 0xE0 to 0xEF, and the two bytes after it. An overlong form's value is below U+0800; the surrogates
-// are the 2,048 values from U+D800, the 27th such run.
-fn three_bytes(b0: u32, b1: u32, b2: u32) -> Character
-    requires { ⌜ (0xE0 ≤ b0) × (b0 < 0xF0) × (b1 < 0x100) × (b2 < 0x100) ⌝ }
-    ensures { λ r. ⌜ ((rest : List ℕ) → r ≡ readFrom (b0 ∷ b1 ∷ b2 ∷ rest)) ⌝ }
+// What a lead byte below 0xE0 and a tail spell. Below U+0080 it is an overlong form, or the lead byte is none.
+fn two_bytes(c: u32) -> Character
+    ensures { λ r. ⌜ ((b0 b1 : ℕ) (rest : List ℕ) → Tail b1 → (0x80 ≤ b0) × (b0 < 0xE0) → c ≡ b0 * 0x40 + b1 → r ≡ readFrom (b0 ∷ b1 ∷ rest)) ⌝ }
 {
-    if b1 / 0x40 != 2 {
+    if c < 0x3100 {
         return Character::Malformed;
     }
-    if b2 / 0x40 != 2 {
-        return Character::Malformed;
-    }
-    let c = (b0 - 0xE0) * 0x1000 + (b1 - 0x80) * 0x40 + (b2 - 0x80);
-    if c < 0x800 {
-        return Character::Malformed;
-    }
-    if c / 0x800 == 27 {
-        return Character::Malformed;
-    }
-    Character::Char(c, 3)
+    Character::Char(c - 0x3080, 2)
 }
 
-// A lead byte from 0xF0, and the three bytes after it.
-fn four_bytes(b0: u32, b1: u32, b2: u32, b3: u32) -> Character
-    requires { ⌜ (0xF0 ≤ b0) × (b0 < 0x100) × (b1 < 0x100) × (b2 < 0x100) × (b3 < 0x100) ⌝ }
-    ensures { λ r. ⌜ ((rest : List ℕ) → r ≡ readFrom (b0 ∷ b1 ∷ b2 ∷ b3 ∷ rest)) ⌝ }
+// What a lead byte from 0xE0 to 0xEF and two tails spell. Below U+0800 it is an overlong form; the surrogates are the 2,048
+// values from U+D800, the 27th such run.
+fn three_bytes(c: u32) -> Character
+    requires { ⌜ 0xE_2080 ≤ c ⌝ }
+    ensures { λ r. ⌜ ((b0 b1 b2 : ℕ) (rest : List ℕ) → Tail b1 → Tail b2 → (0xE0 ≤ b0) × (b0 < 0xF0) → c ≡ (b0 * 0x40 + b1) * 0x40 + b2 → r ≡ readFrom (b0 ∷ b1 ∷ b2 ∷ rest)) ⌝ }
 {
-    if b1 / 0x40 != 2 {
+    let value = c - 0xE_2080;
+    let run = value / 0x800;
+    if run == 0 {
         return Character::Malformed;
     }
-    if b2 / 0x40 != 2 {
+    if run == 27 {
         return Character::Malformed;
     }
-    if b3 / 0x40 != 2 {
-        return Character::Malformed;
-    }
-    let c = (b0 - 0xF0) * 0x40000 + (b1 - 0x80) * 0x1000 + (b2 - 0x80) * 0x40 + (b3 - 0x80);
-    if c < 0x1_0000 {
-        return Character::Malformed;
-    }
-    if 0x10_FFFF < c {
-        return Character::Malformed;
-    }
-    Character::Char(c, 4)
+    Character::Char(value, 3)
 }
 
-// The character at a position of a text.
+// What a lead byte from 0xF0 and three tails spell. Below U+10000 it is an overlong form, and U+10FFFF is the last.
+fn four_bytes(c: u32) -> Character
+    requires { ⌜ 0x3C8_2080 ≤ c ⌝ }
+    ensures { λ r. ⌜ ((b0 b1 b2 b3 : ℕ) (rest : List ℕ) → Tail b1 → Tail b2 → Tail b3 → 0xF0 ≤ b0 → c ≡ ((b0 * 0x40 + b1) * 0x40 + b2) * 0x40 + b3 → r ≡ readFrom (b0 ∷ b1 ∷ b2 ∷ b3 ∷ rest)) ⌝ }
+{
+    let value = c - 0x3C8_2080;
+    if value < 0x1_0000 {
+        return Character::Malformed;
+    }
+    if 0x10_FFFF < value {
+        return Character::Malformed;
+    }
+    Character::Char(value, 4)
+}
+
+// The character at a position of a text. Its bytes are read one after the other, each tested before the next.
 pub fn read_char(s: &[u8], at: usize) -> Character
     ensures { λ r. ⌜ r ≡ characterAt (now (s .entry)) at ⌝ }
 {
     if s.len() <= at {
         return Character::End;
     }
-    let left = s.len() - at;
     let b0 = wide(s[at]);
     if b0 < 0x80 {
         return Character::Char(b0, 1);
     }
-    if b0 < 0xE0 {
-        if left < 2 {
-            return Character::Malformed;
-        }
-        return two_bytes(b0, wide(s[at + 1]));
-    }
-    if b0 < 0xF0 {
-        if left < 3 {
-            return Character::Malformed;
-        }
-        return three_bytes(b0, wide(s[at + 1]), wide(s[at + 2]));
-    }
-    if left < 4 {
+    let b1 = tail_at(s, at + 1);
+    if b1 == 0 {
         return Character::Malformed;
     }
-    four_bytes(b0, wide(s[at + 1]), wide(s[at + 2]), wide(s[at + 3]))
+    let c1 = b0 * 0x40 + b1;
+    if b0 < 0xE0 {
+        return two_bytes(c1);
+    }
+    let b2 = tail_at(s, at + 2);
+    if b2 == 0 {
+        return Character::Malformed;
+    }
+    let c2 = c1 * 0x40 + b2;
+    if b0 < 0xF0 {
+        return three_bytes(c2);
+    }
+    let b3 = tail_at(s, at + 3);
+    if b3 == 0 {
+        return Character::Malformed;
+    }
+    four_bytes(c2 * 0x40 + b3)
+}
+
+// The character at a position of a text that is known to be well formed, where nothing malformed is met, and no end: the
+// bytes are as many as the first one says, and none of them is tested.
+pub fn next_char(s: &[u8], at: usize) -> NextChar
+    requires { ⌜ (at < length (now s)) × IsSome (charsFrom (now s) at) ⌝ }
+    ensures { λ r. ⌜ characterAt (now (s .entry)) at ≡ Char (r .value) (r .width) ⌝ }
+{
+    let b0 = wide(s[at]);
+    if b0 < 0x80 {
+        return NextChar {
+            value: b0,
+            width: 1,
+        };
+    }
+    let c1 = b0 * 0x40 + wide(s[at + 1]);
+    if b0 < 0xE0 {
+        return NextChar {
+            value: c1 - 0x3080,
+            width: 2,
+        };
+    }
+    let c2 = c1 * 0x40 + wide(s[at + 2]);
+    if b0 < 0xF0 {
+        return NextChar {
+            value: c2 - 0xE_2080,
+            width: 3,
+        };
+    }
+    let c3 = c2 * 0x40 + wide(s[at + 3]);
+    NextChar {
+        value: c3 - 0x3C8_2080,
+        width: 4,
+    }
 }
 
 // Checks a whole text and counts its characters, in one pass.

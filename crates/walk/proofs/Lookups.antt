@@ -20,10 +20,9 @@ use Rattle.trie.specs.Trie.{CharTrie, SlotCount, testedStep, walk, wordAt, gotB
 use Rattle.utf8.specs.declared.Character.the-variants.{Char}
 use Rattle.utf8.specs.Characters.{characterAt}
 use Rattle.utf8.specs.Text.{before, charsFrom}
-use Rattle.utf8.proofs.Positions.{from-char, from-end}
+use Rattle.utf8.proofs.Positions.{from-char, from-end, still-chars}
 use Rattle.walk.specs.Walk.{EquallyLong, Inside, walkFrom, gotOf}
 use Rattle.walk.proofs.Places.{walks-inside, word-inside}
-use Rattle.walk.proofs.Characters.{still-chars}
 
 -- ---- a lookup, from a position of a text on, by the step of the character there
 

@@ -15,11 +15,11 @@ use Rattle.trie.specs.Trie.{CharTrie, openStep, wordAt, reach, trieOf}
 use Rattle.utf8.specs.declared.Character.the-variants.{Char}
 use Rattle.utf8.specs.Characters.{characterAt}
 use Rattle.utf8.specs.Text.{before, charsOf, charsFrom}
-use Rattle.utf8.proofs.Positions.{from-char, from-end}
+use Rattle.utf8.proofs.Positions.{from-char, from-end, still-chars}
 use Rattle.walk.specs.declared.Room.{Room}
 use Rattle.walk.specs.declared.Room.the-variants.{Whole}
 use Rattle.walk.specs.Walk.{newSteps, roomAt, roomFrom}
-use Rattle.walk.proofs.Characters.{part-chars, still-chars}
+use Rattle.walk.proofs.Characters.{part-chars}
 
 -- ---- an insertion, from a position of a text on, by the step of the character there
 

@@ -11,9 +11,7 @@ ghost use lib.ListN.{length};
 ghost use Prim.Native.Nat.{ℕ, _-_, _^_, _<_};
 ghost use Rattle.trie.specs.Trie.{log2, SlotCount, openStep, testedStep, wordAt, trieOf};
 ghost use Rattle.trie.specs.declared.ParentRef.the-variants.{Root};
-ghost use Rattle.utf8.specs.declared.Character.the-variants.{Char};
-ghost use Rattle.utf8.specs.Characters.{characterAt};
-ghost use Rattle.utf8.specs.Text.{charsOf, charsFrom};
+ghost use Rattle.utf8.specs.Text.{charsOf};
 ghost use Rattle.walk.specs.Walk.{EquallyLong, Inside, BeginsWith, firstStep, walkFrom, gotOf, newSteps, roomOf};
 use trie::Got;
 use trie::ParentRef;
@@ -21,7 +19,6 @@ use trie::Step;
 use trie::WordNumber;
 use trie::char_trie;
 use utf8::CharCount;
-use utf8::Character;
 
 // The filter of a root entry, which has no key.
 const ALL_ONES: u64 = 0xFFFF_FFFF_FFFF_FFFF;
@@ -34,12 +31,6 @@ pub enum Room {
     Whole(WordNumber),
     // The slots and the nodes that the missing steps take.
     Partly(usize, usize),
-}
-
-// A character's scalar value, and how many bytes it takes.
-pub struct NextChar {
-    pub value: u32,
-    pub width: usize,
 }
 
 // The root's step: by the root table, or among the slots where the table is too short.
@@ -121,18 +112,6 @@ pub fn word_at(root_words: &[i32], words: &[i32], used: usize, place: ParentRef)
     }
 }
 
-// The character at a position of a text that is known to be well formed, where nothing malformed is met, and no end.
-pub fn next_char(s: &[u8], at: usize) -> NextChar
-    requires { ⌜ (at < length (now s)) × IsSome (charsFrom (now s) at) ⌝ }
-    ensures { λ r. ⌜ characterAt (now (s .entry)) at ≡ Char (r .value) (r .width) ⌝ }
-{
-    match utf8::read_char(s, at) {
-        Character::Char(value, width) => NextChar { value, width },
-        Character::Malformed => NextChar { value: 0, width: 1 },
-        Character::End => NextChar { value: 0, width: 1 },
-    }
-}
-
 // Where a lookup's steps along the word s lead.
 fn walk(root_children: &[u32], keys: &[u64], children: &[u32], shift: u32, s: &[u8]) -> Step
     requires { ⌜ (length (now children) ≡ length (now keys)) × SlotCount (length (now keys)) ⌝ }
@@ -143,7 +122,7 @@ fn walk(root_children: &[u32], keys: &[u64], children: &[u32], shift: u32, s: &[
     let mut at: usize = 0;
     let mut place = ParentRef::Root;
     while at < s.len() {
-        let next = next_char(s, at);
+        let next = utf8::next_char(s, at);
         match tested_step(root_children, keys, children, shift, place, next.value) {
             Step::At(child) => {
                 place = child;
@@ -230,7 +209,7 @@ pub fn room_for(
     let mut at: usize = 0;
     let mut place = ParentRef::Root;
     while at < s.len() {
-        let next = next_char(s, at);
+        let next = utf8::next_char(s, at);
         match open_step(root_children, keys, children, shift, place, next.value) {
             Step::At(child) => {
                 place = child;

@@ -1,6 +1,6 @@
 -- `insert::extend` meets its contract. The loop's invariant, `Extending`: the extension still to be made, from the place and the position on, comes to
--- that of the whole. Each turn is a law of `Extensions`; a text that is well-formed has a character wherever it has not ended (`Words`). The measure
--- is what is left of the text; each new node is paid for by a character, so that the numbers fit. Assumes nothing.
+-- that of the whole. Each turn is a law of `Extensions`. The measure is what is left of the text; each new node is paid for by a character, so that the
+-- numbers fit. Assumes nothing.
 use Prim.Native.Nat.{_-_}
 use mathlib.Core.Path.{_∙_}
 use native.Mathlib.Omega.{arith}
@@ -9,10 +9,10 @@ use mir.Facts.{toZ-ofZ}
 use mir.Syntax.{w32}
 use mir.Val.{toZ}
 use borrow.Author.Needs.{needs}
+use Rattle.utf8.proofs.Positions.{inside, value-below}
 use Rattle.trie.specs.Trie.{trieOf, extend}
 use Rattle.insert.specs.Insert.{characters}
 use Rattle.insert.proofs.Inside.{inside-same, sizes-same}
-use Rattle.insert.proofs.Words.{char-below, char-inside, always-char}
 use Rattle.insert.proofs.Extensions.{Extending, begins, ends, stops, goes-on}
 use Rattle.insert.proofs.extend.Statement.{statement}
 use Rattle.insert.proofs.extend.Tie as tie
@@ -31,44 +31,81 @@ loop-holds c =
     let start = c .before .before .before .before in
     begins _ _ _ _ _ _ (start .pre .1 .0) (start .pre .1 .1 .0) (start .pre .1 .1 .1)
 
-read-char-requires : tie.Need-read-char-requires Inv-loop μ-loop
-read-char-requires c κs = search needs
-
-enum-known-ch : tie.Need-enum-known-ch Inv-loop μ-loop
-enum-known-ch c = search needs
-
-same-length : tie.Need-same-length Inv-loop μ-loop
-same-length c = search
-
-same-length-2 : tie.Need-same-length-2 Inv-loop μ-loop
-same-length-2 c = search
-
-same-length-3 : tie.Need-same-length-3 Inv-loop μ-loop
-same-length-3 c = search
-
-same-length-4 : tie.Need-same-length-4 Inv-loop μ-loop
-same-length-4 c = search
-
-same-length-5 : tie.Need-same-length-5 Inv-loop μ-loop
-same-length-5 c = search
-
-returns : tie.Need-returns Inv-loop μ-loop
-returns c =
-    let turn = c .before .before in
-    absurd (always-char _ _ _ (c .before .read-char .ensures) (turn .before .loop .inv .well-formed) (turn .loop-test .taken) (c .match .keys2))
+next-char-requires : tie.Need-next-char-requires Inv-loop μ-loop
+next-char-requires c κs = search needs
 
 new-step-requires : tie.Need-new-step-requires Inv-loop μ-loop
 new-step-requires c κs =
-    let char = c .before .before .before .before .before .before in
-    let read = char .before .before in
+    let read = c .before .before .before .before .before in
     let loop = read .before .before in
+    let start = loop .before .before .before .before .before in
     let long = loop .loop .inv .long in (
-      sizes-same _ _ _ _ _ _ _ _ _ _ _ (long .rootChildren) (long .rootWords) (long .keys) (long .children) (long .words) (loop .before .before .before .before .before .pre .0),
-      (inside-same _ _ _ _ _ (long .rootChildren) (long .keys) (loop .loop .inv .inside), char-below _ _ _ (read .read-char .ensures) _ _ (char .ch .given .1)),
+      sizes-same _ _ _ _ _ _ _ _ _ _ _ (long .rootChildren) (long .rootWords) (long .keys) (long .children) (long .words) (start .pre .0),
+      (inside-same _ _ _ _ _ (long .rootChildren) (long .keys) (loop .loop .inv .inside), value-below _ _ _ _ (read .next-char .ensures)),
     )
 
 enum-known-step : tie.Need-enum-known-step Inv-loop μ-loop
 enum-known-step c = search needs
+
+same-length : tie.Need-same-length Inv-loop μ-loop
+same-length c = search needs
+
+same-length-2 : tie.Need-same-length-2 Inv-loop μ-loop
+same-length-2 c = search needs
+
+same-length-3 : tie.Need-same-length-3 Inv-loop μ-loop
+same-length-3 c = search needs
+
+same-length-4 : tie.Need-same-length-4 Inv-loop μ-loop
+same-length-4 c = search needs
+
+same-length-5 : tie.Need-same-length-5 Inv-loop μ-loop
+same-length-5 c = search needs
+
+returns : tie.Need-returns Inv-loop μ-loop
+returns c =
+    let made = c .before .before .before .before .before .before .before .before .before in
+    let read = made .before .before .before .before .before .before in
+    let loop = read .before .before in
+    let start = loop .before .before .before .before .before in
+    rw (toZ-ofZ (start .fits .number)) at (stops (loop .loop .inv) (read .next-char .ensures) (made .new-step .ensures) (c .match .keys2))
+
+add-at : tie.Need-add-at Inv-loop μ-loop
+add-at c =
+    let child = c .before .before in
+    let made = child .before .before .before .before .before .before .before .before .before .before in
+    let read = made .before .before .before .before .before .before in
+    omega (arith, inside _ _ _ _ (read .next-char .ensures), read)
+
+add-node : tie.Need-add-node Inv-loop μ-loop
+add-node c =
+    let child = c .before .before in
+    let made = child .before .before .before .before .before .before .before .before .before .before in
+    let read = made .before .before .before .before .before .before in
+    omega (arith, inside _ _ _ _ (read .next-char .ensures), read)
+
+loop-less : tie.Need-loop-less Inv-loop μ-loop
+loop-less c =
+    let child = c .before .before in
+    let made = child .before .before .before .before .before .before .before .before .before .before in
+    let read = made .before .before .before .before .before .before in
+    omega (arith, inside _ _ _ _ (read .next-char .ensures), read)
+
+loop-again : tie.Need-loop-again Inv-loop μ-loop
+loop-again c =
+    let child = c .before .before in
+    let made = child .before .before .before .before .before .before .before .before .before .before in
+    let read = made .before .before .before .before .before .before in
+    let loop = read .before .before in
+    let start = loop .before .before .before .before .before in
+    goes-on (loop .loop .inv) (read .next-char .ensures) (made .new-step .ensures) (start .pre .0 .slotCount) (child .step .given .1)
+
+set-word-requires : tie.Need-set-word-requires Inv-loop μ-loop
+set-word-requires c κs =
+    let loop = c .before .before .before in
+    let start = loop .before .before .before .before .before in
+    let here = loop .loop .inv in
+    inside-same _ _ _ _ _ (here .long .rootWords ∙ start .pre .0 .rootLengths) (here .long .words ∙ start .pre .0 .wordLengths) (here .inside)
 
 same-length-6 : tie.Need-same-length-6 Inv-loop μ-loop
 same-length-6 c = search needs
@@ -87,67 +124,11 @@ same-length-10 c = search needs
 
 returns-2 : tie.Need-returns-2 Inv-loop μ-loop
 returns-2 c =
-    let made = c .before .before .before .before .before .before .before .before .before in
-    let char = made .before .before .before .before .before .before .before in
-    let read = char .before .before in
-    let loop = read .before .before in
-    rw (toZ-ofZ (loop .before .before .before .before .before .fits .number)) at (stops (loop .loop .inv) (read .read-char .ensures) (char .ch .given .1) (made .new-step .ensures) (c .match2 .keys2))
-
-add-at : tie.Need-add-at Inv-loop μ-loop
-add-at c =
-    let char = c .before .before .before .before .before .before .before .before .before .before .before .before .before .before .before .before .before .before in
-    let read = char .before .before in
-    let width = char-inside _ _ _ (read .read-char .ensures) _ _ (char .ch .given .1) in
-    omega (arith, width, read)
-
-add-node : tie.Need-add-node Inv-loop μ-loop
-add-node c =
-    let char = c .before .before .before .before .before .before .before .before .before .before .before .before .before .before .before .before .before .before in
-    let read = char .before .before in
-    let width = char-inside _ _ _ (read .read-char .ensures) _ _ (char .ch .given .1) in
-    omega (arith, width, read)
-
-loop-less : tie.Need-loop-less Inv-loop μ-loop
-loop-less c =
-    let char = c .before .before .before .before .before .before .before .before .before .before .before .before .before .before .before .before .before .before in
-    let read = char .before .before in
-    let width = char-inside _ _ _ (read .read-char .ensures) _ _ (char .ch .given .1) in
-    omega (arith, width, read)
-
-loop-again : tie.Need-loop-again Inv-loop μ-loop
-loop-again c =
-    let made = c .before .before .before .before .before .before .before .before .before .before .before in
-    let char = made .before .before .before .before .before .before .before in
-    let read = char .before .before in
-    let loop = read .before .before in
-    goes-on (loop .loop .inv) (read .read-char .ensures) (char .ch .given .1) (made .new-step .ensures) (loop .before .before .before .before .before .pre .0 .slotCount) (c .before .step .given .1)
-
-set-word-requires : tie.Need-set-word-requires Inv-loop μ-loop
-set-word-requires c κs =
-    let loop = c .before .before .before in
-    let start = loop .before .before .before .before .before in
-    inside-same _ _ _ _ _ (loop .loop .inv .long .rootWords ∙ start .pre .0 .rootLengths) (loop .loop .inv .long .words ∙ start .pre .0 .wordLengths) (loop .loop .inv .inside)
-
-same-length-11 : tie.Need-same-length-11 Inv-loop μ-loop
-same-length-11 c = search needs
-
-same-length-12 : tie.Need-same-length-12 Inv-loop μ-loop
-same-length-12 c = search needs
-
-same-length-13 : tie.Need-same-length-13 Inv-loop μ-loop
-same-length-13 c = search needs
-
-same-length-14 : tie.Need-same-length-14 Inv-loop μ-loop
-same-length-14 c = search needs
-
-same-length-15 : tie.Need-same-length-15 Inv-loop μ-loop
-same-length-15 c = search needs
-
-returns-3 : tie.Need-returns-3 Inv-loop μ-loop
-returns-3 c =
-    let past = c .before .before .before .before .before in
+    let named = c .before .before in
+    let past = named .before .before .before in
     let loop = past .before in
-    rw (toZ-ofZ (loop .before .before .before .before .before .fits .number)) at (ends (loop .loop .inv) _ (past .loop-test .left) (c .before .before .set-word .ensures _ _ _))
+    let start = loop .before .before .before .before .before in
+    rw (toZ-ofZ (start .fits .number)) at (ends (loop .loop .inv) _ (past .loop-test .left) (named .set-word .ensures _ _ _))
 
 pub extend-spec : {M : Type 1} → statement M
 extend-spec =
@@ -156,30 +137,23 @@ extend-spec =
     Inv-loop
     μ-loop
     loop-holds
-    read-char-requires
-    enum-known-ch
+    next-char-requires
+    new-step-requires
+    enum-known-step
     same-length
     same-length-2
     same-length-3
     same-length-4
     same-length-5
     returns
-    new-step-requires
-    enum-known-step
-    same-length-6
-    same-length-7
-    same-length-8
-    same-length-9
-    same-length-10
-    returns-2
     add-at
     add-node
     loop-less
     loop-again
     set-word-requires
-    same-length-11
-    same-length-12
-    same-length-13
-    same-length-14
-    same-length-15
-    returns-3)
+    same-length-6
+    same-length-7
+    same-length-8
+    same-length-9
+    same-length-10
+    returns-2)

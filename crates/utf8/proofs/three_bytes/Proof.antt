@@ -1,62 +1,22 @@
--- `utf8::three_bytes` meets its contract: what fails a test encodes nothing, and what passes them spells a scalar value. Assumes nothing.
-use mathlib.Core.Path.{refl}
-use native.Mathlib.Nat.{lt-of-lt-of-le, le-trans}
-use lib.Dec.{lit≤}
+-- `utf8::three_bytes` meets its contract: what fails a test encodes nothing, and what passes both spells a scalar value. Assumes nothing.
+use Prim.Native.Nat.{_-_}
 use native.Mathlib.Omega.{arith}
-use Rattle.utf8.proofs.Bytes.{malformed, overlong-3, surrogate-3, char-3}
+use Rattle.utf8.proofs.Bytes.{overlong-3, surrogate-3, char-3}
 use borrow.Author.Needs.{needs}
 use Rattle.utf8.proofs.three_bytes.Statement.{statement}
 use Rattle.utf8.proofs.three_bytes.Tie as tie
 
+sub-value : tie.Need-sub-value
+sub-value c = search needs
+
 returns : tie.Need-returns
-returns c = λ rest. malformed _ _ (omega arith) (λ x t. omega arith) (λ x t. omega arith) (λ x t. omega arith)
+returns c = λ b0 b1 b2 rest t1 t2 lead e. overlong-3 b0 b1 b2 _ rest t1 t2 lead e (c .before .args .c - 0xE2080) (omega (arith, c .before .pre)) (omega (arith, c .if1 .taken))
 
 returns-2 : tie.Need-returns-2
-returns-2 c = λ rest. malformed _ _ (omega arith) (λ x t. omega arith) (λ x t. omega arith) (λ x t. omega arith)
-
-sub-c : tie.Need-sub-c
-sub-c c = search needs
-
-mul-c : tie.Need-mul-c
-mul-c c = search needs
-
-sub-c-2 : tie.Need-sub-c-2
-sub-c-2 c = search needs
-
-mul-c-2 : tie.Need-mul-c-2
-mul-c-2 c = search needs
-
-add-c : tie.Need-add-c
-add-c c = search needs
-
-sub-c-3 : tie.Need-sub-c-3
-sub-c-3 c = search needs
-
-add-c-2 : tie.Need-add-c-2
-add-c-2 c = search needs
+returns-2 c = λ b0 b1 b2 rest t1 t2 lead e. surrogate-3 b0 b1 b2 _ rest t1 t2 lead e (c .before .before .args .c - 0xE2080) (omega (arith, c .before .before .pre)) (omega (arith, c .if2 .taken))
 
 returns-3 : tie.Need-returns-3
-returns-3 c = λ rest. overlong-3 _ _ _ _ rest (omega arith) (omega arith) refl (lt-of-lt-of-le (c .if3 .taken) (lit≤ tt))
-
-returns-4 : tie.Need-returns-4
-returns-4 c = λ rest. surrogate-3 _ _ _ _ rest (omega arith) (omega arith) refl (c .if4 .taken)
-
-returns-5 : tie.Need-returns-5
-returns-5 c = λ rest. char-3 _ _ _ _ rest (omega arith) (omega arith) (omega arith) (omega arith) refl (le-trans (lit≤ tt) (c .before .if3 .left)) (c .if4 .left)
+returns-3 c = λ b0 b1 b2 rest t1 t2 lead e. char-3 b0 b1 b2 _ rest t1 t2 lead e _ (omega (arith, c .before .before .pre)) (c .before .if1 .left) (c .if2 .left)
 
 pub three-bytes-spec : {M : Type 1} → statement M
-three-bytes-spec =
-    tie.close
-    (tie.spec
-    returns
-    returns-2
-    sub-c
-    mul-c
-    sub-c-2
-    mul-c-2
-    add-c
-    sub-c-3
-    add-c-2
-    returns-3
-    returns-4
-    returns-5)
+three-bytes-spec = tie.close (tie.spec sub-value returns returns-2 returns-3)

@@ -9,10 +9,10 @@ use borrow.Author.Needs.{needs}
 use Rattle.trie.specs.Trie.{trieOf}
 use Rattle.trie.specs.declared.ParentRef.the-variants.{Root}
 use Rattle.utf8.specs.Text.{charsOf, charsFrom}
-use Rattle.utf8.proofs.Positions.{inside, from-start}
+use Rattle.utf8.proofs.Positions.{inside, from-start, value-below, still-chars}
 use Rattle.walk.specs.Walk.{Inside, roomFrom, roomOf}
 use Rattle.walk.proofs.Places.{starts-inside, word-inside, leads-open}
-use Rattle.walk.proofs.Characters.{chars-start, value-below, still-chars, begins-with}
+use Rattle.walk.proofs.Characters.{chars-start, begins-with}
 use Rattle.walk.proofs.Rooms.{room-next, room-missing, room-damaged, room-whole}
 use Rattle.walk.proofs.room_for.Statement.{statement}
 use Rattle.walk.proofs.room_for.Tie as tie

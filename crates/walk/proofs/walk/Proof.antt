@@ -8,10 +8,10 @@ use lib.ListN.{length}
 use borrow.Author.Needs.{needs}
 use Rattle.trie.specs.declared.ParentRef.the-variants.{Root}
 use Rattle.utf8.specs.Text.{charsOf, charsFrom}
-use Rattle.utf8.proofs.Positions.{inside, from-start}
+use Rattle.utf8.proofs.Positions.{inside, from-start, value-below, still-chars}
 use Rattle.walk.specs.Walk.{Inside, walkFrom}
 use Rattle.walk.proofs.Places.{starts-inside, leads-tested}
-use Rattle.walk.proofs.Characters.{chars-start, value-below, still-chars}
+use Rattle.walk.proofs.Characters.{chars-start}
 use Rattle.walk.proofs.Lookups.{SameWalk, walk-next, walk-nothing, walk-damaged, walk-end}
 use Rattle.walk.proofs.walk.Statement.{statement}
 use Rattle.walk.proofs.walk.Tie as tie
