@@ -3,7 +3,8 @@
 //!
 //!     driver DICTIONARY TEXT...
 //!
-//! The Rust is the unchanged one (jieba_l). Its calls make their own vectors; ours write into areas that are lent and lent again.
+//! The Rust is the one with document 01's logarithm L in place of `ln` (jieba_l), so that both sides do the same work. Its calls
+//! make their own vectors; ours write into areas that are lent and lent again.
 //! The two sides take turns, run by run, so that a busy machine hits both.
 
 #[path = "../oracle/library.rs"]

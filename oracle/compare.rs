@@ -2,7 +2,7 @@
 //!
 //!     compare                          made-up books and sentences
 //!     compare --dict FILE --text FILE  the same, then a real dictionary and a real text
-//!     compare --sample                 prints oracle/sample.txt
+//!     compare --sample FOLDER          writes the list that the program `replay` replays, FOLDER/stdin, and the answers, FOLDER/stdout
 //!
 //! The Rust that is compared has document 01's logarithm L in place of `ln` (jieba_l). The Rust as it is (jieba_ln) is only asked
 //! which sentences it cuts otherwise. Every made-up book and sentence comes from one fixed seed. The program ends with 1 if there
@@ -724,23 +724,38 @@ fn repeated(text: &str, length: usize) -> String {
 
 // ---- the sample
 
+/// Whether the sample has frames of `cut_for_search`, 04: not before the library has the call.
+const WITH_SEARCH: bool = false;
+
 fn hexadecimal(bytes: &[u8]) -> String {
     bytes.iter().map(|byte| format!("{byte:02x}")).collect()
 }
 
-/// Prints one answer of the Rust as a frame of document 01's `cutlines` and the line that answers it.
-fn print_answer(kind: u8, sentence: &str, tokens: &[u32]) {
-    let numbers: String = tokens.iter().map(|n| format!("{n:04x}")).collect();
-    println!("{kind:02x}{} 00{:04x}{numbers}", hexadecimal(sentence.as_bytes()), tokens.len() / 4);
+/// The list that the program `replay` replays, and the lines that must answer its frames.
+struct Sample {
+    list: String,
+    answers: String,
 }
 
-fn print_sample() {
-    println!("# Made by `oracle/compare FOLDER --sample` (seed {SEED}); not edited by hand. The answers are those of the Rust");
-    println!("# (jieba-rs, commit bac49e65b8, with document 01's logarithm L in place of ln, HMM off), and of nothing of ours.");
-    println!("# `book` begins an empty book. Every other line is a frame of document 01's program `cutlines` (01 load, 02 cut,");
-    println!("# 03 cut_all, 04 cut_for_search, then the text in hexadecimal), a space, and the line that must answer it. Every");
-    println!("# book and sentence is within the areas that `cutlines` lends. A comment before the frames shows the cut.");
-    let mut random = Random(SEED);
+impl Sample {
+    fn line(&mut self, line: &str) {
+        writeln!(self.list, "{line}").unwrap();
+    }
+
+    /// A frame of document 01's `cutlines`, and the answer to it: the number 0, a count and the tokens' numbers.
+    fn frame(&mut self, kind: u8, text: &str, count: usize, tokens: &[u32]) {
+        assert!(text.len() <= 1024 && count <= 1024 && tokens.len() <= 4 * 512, "a frame that `cutlines` cannot answer");
+        let numbers: String = tokens.iter().map(|n| format!("{n:04x}")).collect();
+        writeln!(self.list, "{kind:02x}{}", hexadecimal(text.as_bytes())).unwrap();
+        writeln!(self.answers, "00{count:04x}{numbers}").unwrap();
+    }
+
+    fn cut(&mut self, kind: u8, sentence: &str, tokens: &[u32]) {
+        self.frame(kind, sentence, tokens.len() / 4, tokens);
+    }
+}
+
+fn sample_books(random: &mut Random) -> Vec<Plan> {
     let mut books = short_books();
     books.retain(|plan| plan.held.len() < 100 && plan.calls.iter().all(|call| matches!(call, Call::Load(_))));
     let mut example = |entries: &[(&str, u64)]| {
@@ -755,35 +770,68 @@ fn print_sample() {
     example(&[("WES", 1), ("WES-5.4.5", 1)]);
     let mut number = 0;
     while books.len() < 18 {
-        let (plan, _) = plan_by_chance(&mut random, number, 10);
+        let (plan, _) = plan_by_chance(random, number, 10);
         number += 1;
         if plan.held.len() >= 4 && plan.calls.iter().all(|call| matches!(call, Call::Load(text) if text.len() < 1024)) {
             books.push(plan);
         }
     }
-    for plan in books {
+    books
+}
+
+fn sample_heading() -> String {
+    let search = if WITH_SEARCH { ", 04 cut_for_search" } else { "" };
+    format!(
+        "\
+# Made by `oracle/compare FOLDER --sample` (seed {SEED}), and so is `stdout`; not edited by hand. `stdout` has a line for each
+# frame. A cut's is the answer of the Rust (jieba-rs, commit bac49e65b8, with document 01's logarithm L in place of ln, HMM
+# off). A load's says that the Rust accepted the text, and how many lines the text has. Nothing in either comes from the code
+# that is replayed.
+# `book` begins an empty book. Every other line is a frame of document 01's program `cutlines` (01 load, 02 cut, 03 cut_all{search},
+# then the text in hexadecimal). Every book and sentence is within the areas that `cutlines` lends. A comment before the
+# frames of a sentence shows the cut.
+"
+    )
+}
+
+fn sample() -> Sample {
+    let mut sample = Sample { list: sample_heading(), answers: String::new() };
+    let mut random = Random(SEED);
+    for plan in sample_books(&mut random) {
         let rust = Comparison::rust_book(&plan);
-        println!("book");
-        println!("# {}", plan.name);
+        sample.line("book");
+        sample.line(&format!("# {}", plan.name));
         for call in &plan.calls {
             if let Call::Load(text) = call {
-                println!("01{} 00{:04x}", hexadecimal(text.as_bytes()), text.split_inclusive('\n').count());
+                sample.frame(1, text, text.split_inclusive('\n').count(), &[]);
             }
         }
         let held: Vec<&str> = plan.held.keys().map(String::as_str).collect();
-        let mut sentences: Vec<String> = ["", "打开灯", "打开客厅灯", "甲乙", "WES-5.4.5", "ab-1\r\n!"].map(String::from).to_vec();
+        let mut sentences: Vec<String> =
+            ["", "打开灯", "打开客厅灯", "甲乙", "WES-5.4.5", "ab-1\r\n!"].map(String::from).to_vec();
         if !held.is_empty() {
             let characters: Vec<char> = plan.held.keys().flat_map(|word| word.chars()).collect();
             sentences.extend((0..3).map(|_| sentence_by_chance(&mut random, &held, &characters, 10)));
         }
         for sentence in sentences {
             let cut = rust.cut(&sentence);
-            println!("# {}", if sentence.is_empty() { "the empty sentence".to_string() } else { readable(&sentence, &cut) });
-            print_answer(2, &sentence, &cut);
-            print_answer(3, &sentence, &rust.cut_all(&sentence));
-            print_answer(4, &sentence, &rust.cut_for_search(&sentence));
+            let shown = if sentence.is_empty() { "the empty sentence".to_string() } else { readable(&sentence, &cut) };
+            sample.line(&format!("# {shown}"));
+            sample.cut(2, &sentence, &cut);
+            sample.cut(3, &sentence, &rust.cut_all(&sentence));
+            if WITH_SEARCH {
+                sample.cut(4, &sentence, &rust.cut_for_search(&sentence));
+            }
         }
     }
+    sample
+}
+
+fn write(path: &str, text: &str) {
+    std::fs::write(path, text).unwrap_or_else(|error| {
+        eprintln!("compare: {path}: {error}");
+        exit(2)
+    });
 }
 
 // ---- the program
@@ -800,8 +848,10 @@ fn read(path: &str) -> String {
 fn main() {
     let arguments: Vec<String> = std::env::args().skip(1).collect();
     let after = |name: &str| arguments.iter().position(|a| a == name).map(|i| arguments[i + 1].clone());
-    if arguments.iter().any(|a| a == "--sample") {
-        print_sample();
+    if let Some(folder) = after("--sample") {
+        let sample = sample();
+        write(&format!("{folder}/stdin"), &sample.list);
+        write(&format!("{folder}/stdout"), &sample.answers);
         return;
     }
     let mut otherwise = Otherwise { asked: 0, cut_otherwise: 0, list: Box::new(std::io::sink()), named: String::new() };

@@ -256,6 +256,10 @@ module _ (s : List ℕ) (at b0 : ℕ) (e0 : b0 ≡ getD s at 0) where
 
 -- ---- a text that is known to be well formed: its first byte says how many there are, and they spell the value
 
+-- n bytes, six bits after six bits, spell the character at a position, above a part m that is the same for all that take n bytes
+abbrev pub Spells : List ℕ → ℕ → ℕ → ℕ → ℕ → Type 0
+Spells s at bytes m n = (m ≤ bytes) × (characterAt s at ≡ Char (bytes - m) n)
+
 module _ (s : List ℕ) (at : ℕ) (within : at < length s) (some-chars : IsSome (charsFrom s at)) (b0 : ℕ) (e0 : b0 ≡ getD s at 0) where
   abbrev later : List ℕ
   later = drop (suc at) s
@@ -307,11 +311,7 @@ module _ (s : List ℕ) (at : ℕ) (within : at < length s) (some-chars : IsSome
       (λ c t e. absurd (omega (arith, t .lead, t .to)))
       (λ c t e. omega (arith, t .room, length-drop (suc at) s))
 
-  -- what they spell: the value, above a part m that is the same for all that take n bytes
-  abbrev Spells : ℕ → ℕ → ℕ → Type 0
-  Spells bytes m n = (m ≤ bytes) × (characterAt s at ≡ Char (bytes - m) n)
-
-  spells : (bytes m n c : ℕ) → bytes ≡ c + m → characterAt s at ≡ Char c n → Spells bytes m n
+  spells : (bytes m n c : ℕ) → bytes ≡ c + m → characterAt s at ≡ Char c n → Spells s at bytes m n
   spells bytes m n c e read = let v : c ≡ bytes - m = omega arith in (omega arith, read ∙ ap (λ (x : ℕ). Char x n) v)
 
   pub next-1 : b0 < 0x80 → characterAt s at ≡ Char b0 1
@@ -327,27 +327,27 @@ module _ (s : List ℕ) (at : ℕ) (within : at < length s) (some-chars : IsSome
   byte i j b e is = getD-drop (suc at) s i 0 ∙ rw (is, e)
 
   module _ (b1 : ℕ) (e1 : b1 ≡ getD s (at + 1) 0) where
-    pub next-2 : 0x80 ≤ b0 → b0 < 0xE0 → Spells (b0 * 0x40 + b1) 0x3080 2
+    pub next-2 : 0x80 ≤ b0 → b0 < 0xE0 → Spells s at (b0 * 0x40 + b1) 0x3080 2
     next-2 l h =
-        by-lead (Spells (b0 * 0x40 + b1) 0x3080 2)
+        by-lead (Spells s at (b0 * 0x40 + b1) 0x3080 2)
         (λ low e. absurd (omega arith))
         (λ c t e. spells _ _ _ c (omega (arith, spelled-2 b0 later c t, byte 0 (at + 1) b1 (omega arith) e1)) e)
         (λ c t e. absurd (omega (arith, t .lead)))
         (λ c t e. absurd (omega (arith, t .lead)))
 
     module _ (b2 : ℕ) (e2 : b2 ≡ getD s (at + 2) 0) where
-      pub next-3 : 0xE0 ≤ b0 → b0 < 0xF0 → Spells ((b0 * 0x40 + b1) * 0x40 + b2) 0xE2080 3
+      pub next-3 : 0xE0 ≤ b0 → b0 < 0xF0 → Spells s at ((b0 * 0x40 + b1) * 0x40 + b2) 0xE2080 3
       next-3 l h =
-          by-lead (Spells ((b0 * 0x40 + b1) * 0x40 + b2) 0xE2080 3)
+          by-lead (Spells s at ((b0 * 0x40 + b1) * 0x40 + b2) 0xE2080 3)
           (λ low e. absurd (omega arith))
           (λ c t e. absurd (omega (arith, t .lead, t .to)))
           (λ c t e. spells _ _ _ c (omega (arith, spelled-3 b0 later c t, byte 0 (at + 1) b1 (omega arith) e1, byte 1 (at + 2) b2 (omega arith) e2)) e)
           (λ c t e. absurd (omega (arith, t .lead)))
 
       module _ (b3 : ℕ) (e3 : b3 ≡ getD s (at + 3) 0) where
-        pub next-4 : 0xF0 ≤ b0 → Spells (((b0 * 0x40 + b1) * 0x40 + b2) * 0x40 + b3) 0x3C82080 4
+        pub next-4 : 0xF0 ≤ b0 → Spells s at (((b0 * 0x40 + b1) * 0x40 + b2) * 0x40 + b3) 0x3C82080 4
         next-4 l =
-            by-lead (Spells (((b0 * 0x40 + b1) * 0x40 + b2) * 0x40 + b3) 0x3C82080 4)
+            by-lead (Spells s at (((b0 * 0x40 + b1) * 0x40 + b2) * 0x40 + b3) 0x3C82080 4)
             (λ low e. absurd (omega arith))
             (λ c t e. absurd (omega (arith, t .lead, t .to)))
             (λ c t e. absurd (omega (arith, t .lead, t .to)))

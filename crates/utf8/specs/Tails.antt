@@ -8,7 +8,11 @@ use lib.ListN.{length, getD}
 abbrev pub Tail : ℕ → Type 0
 Tail b = (0x80 ≤ b) × (b ≤ 0xBF)
 
--- r is the tail at a position of a text, or 0 where none stands there
+-- r is the tail at a position of a text
+abbrev pub TailIs : List ℕ → ℕ → ℕ → Type 0
+TailIs s at r = (at < length s) × (r ≡ getD s at 0) × Tail r
+
+-- or 0, where none stands there
 pub record TailAt (s : List ℕ) (at r : ℕ) : Type 0 where
   pub missing : r ≡ 0 → at < length s → Tail (getD s at 0) → ⊥
-  pub there : 1 ≤ r → (at < length s) × (r ≡ getD s at 0) × Tail r
+  pub there : 1 ≤ r → TailIs s at r

@@ -52,6 +52,25 @@ same-length-13 c = search needs
 same-length-14 : tie.Need-same-length-14
 same-length-14 c = search needs
 
+-- ---- the places of the code in a block of the class: its test, the walk, the edges that the walk told of, and the route
+
+abbrev lent : tie.Else1 → tie.Start
+lent c = c .before .before .before .before .before .before .before .before .before .before .before .before .before .before
+
+abbrev of-class : tie.After-for-each-prefix-at-every-char → tie.Else1
+of-class c = c .before .before .before .before
+
+abbrev walked : tie.After-slice-known11 → tie.After-for-each-prefix-at-every-char
+walked c = c .before .before .before .before .before .before
+
+abbrev told : tie.After-calc-arg6 → tie.After-enum-told3
+told c = c .before .before .before .before .before .before
+
+abbrev routed-at : tie.After-cut-route-arg2 → tie.After-calc
+routed-at c = c .before .before .before .before .before .before .before .before
+
+-- ---- what is needed
+
 returns : tie.Need-returns
 returns c =
     let called = c .before .before in
@@ -60,9 +79,9 @@ returns c =
 
 for-each-prefix-at-every-char-requires : tie.Need-for-each-prefix-at-every-char-requires
 for-each-prefix-at-every-char-requires c κs =
-    let entry = c .before .before .before .before .before .before .before .before .before .before .before .before .before .before .before .before .before in
-    let work = entry .pre .1 .1 .0 in
-    (entry .pre .0, ((entry .pre .1 .0 .0, entry .pre .1 .0 .1), ((omega (arith, work .0 .in-chars), omega (arith, work .2), work .0 .in-starts, work .1), (entry .pre .1 .1 .1 .0, entry .pre .1 .1 .1 .1, entry .pre .1 .0 .2))))
+    let pre = lent (c .before .before .before) .pre in
+    let work = pre .1 .1 .0 in
+    (pre .0, ((pre .1 .0 .0, pre .1 .0 .1), ((omega (arith, work .0 .in-chars), omega (arith, work .2), work .0 .in-starts, work .1), (pre .1 .1 .1 .0, pre .1 .1 .1 .1, pre .1 .0 .2))))
 
 enum-told : tie.Need-enum-told
 enum-told c = search needs
@@ -75,49 +94,46 @@ enum-told-3 c = search needs
 
 calc-requires : tie.Need-calc-requires
 calc-requires c κs =
-    let walked = c .before .before .before .before .before .before .before .before .before .before .before .before .before .before in
-    let entry = walked .before .before .before .before .before .before .before .before .before .before .before .before .before .before .before .before .before .before in
+    let walk = walked (told c .before .before) in
+    let entry = lent (of-class walk) in
     let work = entry .pre .1 .1 .0 in (
-      (omega (arith, work .2), omega (arith, work .0 .in-starts, walked .for-each-prefix-at-every-char .kept), work .0 .in-scores, work .0 .in-ends, work .0 .in-records),
-      edges-fit _ (entry .args .logarithms .now) (entry .args .used) _ _ _ _ _ _ _ _ (entry .pre .1 .0 .3) (c .before .before .before .before .before .before .enum-told3 .given .1) (walked .for-each-prefix-at-every-char .ensures),
+      (omega (arith, work .2), omega (arith, work .0 .in-starts, walk .for-each-prefix-at-every-char .kept), work .0 .in-scores, work .0 .in-ends, work .0 .in-records),
+      edges-fit _ (entry .args .logarithms .now) (entry .args .used) _ _ _ _ _ _ _ _ (entry .pre .1 .0 .3) (told c .enum-told3 .given .1) (walk .for-each-prefix-at-every-char .ensures),
     )
 
 cut-route-requires : tie.Need-cut-route-requires
 cut-route-requires c κs =
-    let routed = c .before .before .before .before .before .before .before .before in
-    let told = routed .before .before .before .before .before .before .before in
-    let walked = told .before .before .before .before .before .before .before .before in
-    let entry = walked .before .before .before .before .before .before .before .before .before .before .before .before .before .before .before .before .before .before in
+    let route = routed-at c in
+    let edges = told (route .before) in
+    let walk = walked (edges .before .before) in
+    let entry = lent (of-class walk) in
     let work = entry .pre .1 .1 .0 in (
-      (omega (arith, work .0 .in-chars), work .0 .in-offsets, omega (arith, work .0 .in-ends, routed .calc .kept), work .2),
-      steps-forward _ _ _ _ _ _ _ _ _ (routed .calc .ensures)
-          (edges-fit _ (entry .args .logarithms .now) (entry .args .used) _ _ _ _ _ _ _ _ (entry .pre .1 .0 .3) (told .enum-told3 .given .1) (walked .for-each-prefix-at-every-char .ensures)),
+      (omega (arith, work .0 .in-chars), work .0 .in-offsets, omega (arith, work .0 .in-ends, route .calc .kept), work .2),
+      steps-forward _ _ _ _ _ _ _ _ _ (route .calc .ensures)
+          (edges-fit _ (entry .args .logarithms .now) (entry .args .used) _ _ _ _ _ _ _ _ (entry .pre .1 .0 .3) (edges .enum-told3 .given .1) (walk .for-each-prefix-at-every-char .ensures)),
     )
 
 returns-2 : tie.Need-returns-2
 returns-2 c =
-    let walked = c .before .before .before .before .before .before .before .before in
-    let entry = walked .before .before .before .before .before .before .before .before .before .before .before .before .before .before .before .before .before .before in
+    let walk = walked (c .before .before) in
     λ b bytes seen logs total offsets.
-    stopped-full b _ _ _ _ _ _ _ _ _ _ (not-false _ (walked .before .before .before .before .if1 .left)) (walked .for-each-prefix-at-every-char .ensures b (seen .trie) (seen .records) (rw logs (entry .pre .1 .0 .3))) (c .enum-told .given .1)
+    stopped-full b _ _ _ _ _ _ _ _ _ _ (not-false _ (of-class walk .if1 .left)) (walk .for-each-prefix-at-every-char .ensures b (seen .trie) (seen .records) (rw logs (lent (of-class walk) .pre .1 .0 .3))) (c .enum-told .given .1)
 
 returns-3 : tie.Need-returns-3
 returns-3 c =
-    let walked = c .before .before .before .before .before .before .before .before in
-    let entry = walked .before .before .before .before .before .before .before .before .before .before .before .before .before .before .before .before .before .before in
+    let walk = walked (c .before .before) in
     λ b bytes seen logs total offsets.
-    stopped-damaged b _ _ _ _ _ _ _ _ _ _ (not-false _ (walked .before .before .before .before .if1 .left)) (walked .for-each-prefix-at-every-char .ensures b (seen .trie) (seen .records) (rw logs (entry .pre .1 .0 .3))) (c .enum-told2 .given .1)
+    stopped-damaged b _ _ _ _ _ _ _ _ _ _ (not-false _ (of-class walk .if1 .left)) (walk .for-each-prefix-at-every-char .ensures b (seen .trie) (seen .records) (rw logs (lent (of-class walk) .pre .1 .0 .3))) (c .enum-told2 .given .1)
 
 returns-4 : tie.Need-returns-4
 returns-4 c =
     let tokens = c .before .before in
-    let route = tokens .before .before .before .before .before .before .before .before .before in
-    let told = route .before .before .before .before .before .before .before in
-    let walked = told .before .before .before .before .before .before .before .before in
-    let entry = walked .before .before .before .before .before .before .before .before .before .before .before .before .before .before .before .before .before .before in
+    let route = routed-at (tokens .before) in
+    let edges = told (route .before) in
+    let walk = walked (edges .before .before) in
     λ b bytes seen logs total offsets.
-    routed b _ _ _ _ _ _ _ _ _ _ (not-false _ (walked .before .before .before .before .if1 .left))
-    (walked .for-each-prefix-at-every-char .ensures b (seen .trie) (seen .records) (rw logs (entry .pre .1 .0 .3))) _ (told .enum-told3 .given .1) _ _ logs total _
+    routed b _ _ _ _ _ _ _ _ _ _ (not-false _ (of-class walk .if1 .left))
+    (walk .for-each-prefix-at-every-char .ensures b (seen .trie) (seen .records) (rw logs (lent (of-class walk) .pre .1 .0 .3))) _ (edges .enum-told3 .given .1) _ _ logs total _
     (tokens .cut-route .ensures bytes _ offsets (has-ends _ _ _ _ _ _ _ _ _ (route .calc .ensures)))
 
 pub cut-block-spec : {M : Type 1} → statement M

@@ -46,40 +46,59 @@ loop-holds c = (
   λ b lent. refl,
 )
 
+-- ---- the places of the code that a turn passes: the loop's test, the run, and its cut
+
+abbrev lent : tie.At-loop Inv-loop μ-loop → tie.Start Inv-loop μ-loop
+lent c = c .before .before .before .before .before .before .before .before .before .before .before .before .before .before .before
+
+abbrev test : tie.After-next-recording Inv-loop μ-loop → tie.At-loop Inv-loop μ-loop
+test c = c .before .before .before .before
+
+abbrev recorded : tie.After-cut-block Inv-loop μ-loop → tie.After-next-recording Inv-loop μ-loop
+recorded c = c .before .before .before .before .before .before .before .before .before .before .before .before .before .before
+
+abbrev cut-done : tie.After-number-of Inv-loop μ-loop → tie.After-cut-block Inv-loop μ-loop
+cut-done c = c .before .before .before .before .before .before .before .before .before .before .before .before .before .before .before
+
+-- the run lies within the sentence, and the work area has a place for each of its characters
+module _ (c : tie.After-next-recording Inv-loop μ-loop) where
+  run-within : test c .loop .base + c .next-recording .result .chars + length (textFrom (lent (test c) .args .sentence .now) (c .next-recording .result .end)) ≡ length (textFrom (lent (test c) .args .sentence .now) 0)
+  run-within = passed _ _ _ _ _ _ (c .next-recording .ensures) _ _ (test c .loop .inv .3)
+
+  few : test c .loop .base + c .next-recording .result .chars ≤ 16777215
+  few = omega (arith, run-within, lent (test c) .pre .1 .1 .0, text-bytes (lent (test c) .args .sentence .now))
+
 next-recording-requires : tie.Need-next-recording-requires Inv-loop μ-loop
 next-recording-requires c κs =
     let turn = c .before .before .before in
-    let entry = turn .before .before .before .before .before .before .before .before .before .before .before .before .before .before .before in
-    let work = entry .pre .1 .1 .1 .0 in
+    let work = lent turn .pre .1 .1 .1 .0 in
     let l = turn .loop .inv in
-    ((c .before .before .loop-test .taken, entry .pre .1 .1 .0 .0, l .2), (omega (arith, l .0, l .3, work), omega (arith, l .0, l .3, work)))
+    ((c .before .before .loop-test .taken, lent turn .pre .1 .1 .0 .0, l .2), (omega (arith, l .0, l .3, work), omega (arith, l .0, l .3, work)))
 
 cut-block-requires : tie.Need-cut-block-requires Inv-loop μ-loop
 cut-block-requires c κs =
-    let recorded = c .before .before .before .before .before .before .before .before .before .before .before .before .before in
-    let turn = recorded .before .before .before .before in
-    let entry = turn .before .before .before .before .before .before .before .before .before .before .before .before .before .before .before in
-    let work = entry .pre .1 .1 .1 .0 in
-    let l = turn .loop .inv in
-    let run = recorded .next-recording .ensures in
-    let within = passed _ _ _ _ _ _ run _ _ (l .3) in (
-      entry .pre .0,
+    let run = c .before .before .before .before .before .before .before .before .before .before .before .before .before in
+    let pre = lent (test run) .pre in
+    let work = pre .1 .1 .1 .0 in
+    let long = test run .loop .inv .0 in
+    let within = run-within run in (
+      pre .0,
       (
-        entry .pre .1 .0,
+        pre .1 .0,
         (
           (
             record {
-              in-chars = omega (arith, within, work, l .0, recorded .next-recording .kept);
-              in-offsets = omega (arith, within, work, l .0, recorded .next-recording .kept);
-              in-starts = omega (arith, within, work, l .0);
-              in-scores = omega (arith, within, work, l .0);
-              in-ends = omega (arith, within, work, l .0);
-              in-records = omega (arith, within, work, l .0);
+              in-chars = omega (arith, within, work, long, run .next-recording .kept);
+              in-offsets = omega (arith, within, work, long, run .next-recording .kept);
+              in-starts = omega (arith, within, work, long);
+              in-scores = omega (arith, within, work, long);
+              in-ends = omega (arith, within, work, long);
+              in-records = omega (arith, within, work, long);
             },
-            run .characters,
-            omega (arith, within, entry .pre .1 .1 .0, text-bytes (entry .args .sentence .now)),
+            run .next-recording .ensures .characters,
+            few run,
           ),
-          (omega (arith, l .0, entry .pre .1 .1 .1 .1), omega (arith, l .0, entry .pre .1 .1 .1 .1)),
+          (omega (arith, long, pre .1 .1 .1 .1), omega (arith, long, pre .1 .1 .1 .1)),
         ),
       ),
     )
@@ -88,109 +107,61 @@ number-of-requires : tie.Need-number-of-requires Inv-loop μ-loop
 number-of-requires c κs = search needs
 
 same-length : tie.Need-same-length Inv-loop μ-loop
-same-length c =
-    let cut = c .before .before .before .before .before .before .before .before .before .before .before .before .before .before .before .before in
-    let recorded = cut .before .before .before .before .before .before .before .before .before .before .before .before .before .before in
-    omega (arith, recorded .next-recording .kept, recorded .before .before .before .before .loop .inv .0)
+same-length c = let cut = cut-done (c .before) in omega (arith, recorded cut .next-recording .kept, test (recorded cut) .loop .inv .0)
 
 same-length-2 : tie.Need-same-length-2 Inv-loop μ-loop
-same-length-2 c =
-    let cut = c .before .before .before .before .before .before .before .before .before .before .before .before .before .before .before .before in
-    let recorded = cut .before .before .before .before .before .before .before .before .before .before .before .before .before .before in
-    omega (arith, recorded .next-recording .kept, recorded .before .before .before .before .loop .inv .0)
+same-length-2 c = let cut = cut-done (c .before) in omega (arith, recorded cut .next-recording .kept, test (recorded cut) .loop .inv .0)
 
 same-length-3 : tie.Need-same-length-3 Inv-loop μ-loop
-same-length-3 c =
-    let cut = c .before .before .before .before .before .before .before .before .before .before .before .before .before .before .before .before in
-    let recorded = cut .before .before .before .before .before .before .before .before .before .before .before .before .before .before in
-    omega (arith, cut .cut-block .kept, recorded .before .before .before .before .loop .inv .0)
+same-length-3 c = let cut = cut-done (c .before) in omega (arith, cut .cut-block .kept, test (recorded cut) .loop .inv .0)
 
 same-length-4 : tie.Need-same-length-4 Inv-loop μ-loop
-same-length-4 c =
-    let cut = c .before .before .before .before .before .before .before .before .before .before .before .before .before .before .before .before in
-    let recorded = cut .before .before .before .before .before .before .before .before .before .before .before .before .before .before in
-    omega (arith, cut .cut-block .kept, recorded .before .before .before .before .loop .inv .0)
+same-length-4 c = let cut = cut-done (c .before) in omega (arith, cut .cut-block .kept, test (recorded cut) .loop .inv .0)
 
 same-length-5 : tie.Need-same-length-5 Inv-loop μ-loop
-same-length-5 c =
-    let cut = c .before .before .before .before .before .before .before .before .before .before .before .before .before .before .before .before in
-    let recorded = cut .before .before .before .before .before .before .before .before .before .before .before .before .before .before in
-    omega (arith, cut .cut-block .kept, recorded .before .before .before .before .loop .inv .0)
+same-length-5 c = let cut = cut-done (c .before) in omega (arith, cut .cut-block .kept, test (recorded cut) .loop .inv .0)
 
 same-length-6 : tie.Need-same-length-6 Inv-loop μ-loop
-same-length-6 c =
-    let cut = c .before .before .before .before .before .before .before .before .before .before .before .before .before .before .before .before in
-    let recorded = cut .before .before .before .before .before .before .before .before .before .before .before .before .before .before in
-    omega (arith, cut .cut-block .kept, recorded .before .before .before .before .loop .inv .0)
+same-length-6 c = let cut = cut-done (c .before) in omega (arith, cut .cut-block .kept, test (recorded cut) .loop .inv .0)
 
 same-length-7 : tie.Need-same-length-7 Inv-loop μ-loop
-same-length-7 c =
-    let cut = c .before .before .before .before .before .before .before .before .before .before .before .before .before .before .before .before in
-    let recorded = cut .before .before .before .before .before .before .before .before .before .before .before .before .before .before in
-    omega (arith, cut .cut-block .kept, recorded .before .before .before .before .loop .inv .0)
+same-length-7 c = let cut = cut-done (c .before) in omega (arith, cut .cut-block .kept, test (recorded cut) .loop .inv .0)
 
 same-length-8 : tie.Need-same-length-8 Inv-loop μ-loop
-same-length-8 c =
-    let cut = c .before .before .before .before .before .before .before .before .before .before .before .before .before .before .before .before in
-    let recorded = cut .before .before .before .before .before .before .before .before .before .before .before .before .before .before in
-    omega (arith, cut .cut-block .kept, recorded .before .before .before .before .loop .inv .0)
+same-length-8 c = let cut = cut-done (c .before) in omega (arith, cut .cut-block .kept, test (recorded cut) .loop .inv .0)
 
 same-length-9 : tie.Need-same-length-9 Inv-loop μ-loop
-same-length-9 c =
-    let cut = c .before .before .before .before .before .before .before .before .before .before .before .before .before .before .before .before in
-    let recorded = cut .before .before .before .before .before .before .before .before .before .before .before .before .before .before in
-    omega (arith, cut .cut-block .kept, recorded .before .before .before .before .loop .inv .0)
+same-length-9 c = let cut = cut-done (c .before) in omega (arith, cut .cut-block .kept, test (recorded cut) .loop .inv .0)
 
 returns : tie.Need-returns Inv-loop μ-loop
 returns c =
-    let cut = c .before .before .before .before .before .before .before .before .before .before .before .before .before .before .before .before in
-    let recorded = cut .before .before .before .before .before .before .before .before .before .before .before .before .before .before in
-    let l = recorded .before .before .before .before .loop .inv in
-    let run = recorded .next-recording .ensures in
+    let cut = cut-done (c .before) in
+    let run = recorded cut .next-recording .ensures in
     λ b seen logs total.
     stopped-at b _ _ _ _ _ _ _ _ _ run _ _ (cut .cut-block .ensures b _ seen logs total (run .offset)) (λ z. c .if1 .taken (c .before .number-of .ensures ∙ z))
-    ∙ l .4 b (seen, logs, total)
+    ∙ test (recorded cut) .loop .inv .4 b (seen, logs, total)
     ∙ from-start b _ _ _
 
 cast-base : tie.Need-cast-base Inv-loop μ-loop
-cast-base c =
-    let cut = c .before .before .before .before .before .before .before .before .before .before .before .before .before .before .before .before .before in
-    let recorded = cut .before .before .before .before .before .before .before .before .before .before .before .before .before .before in
-    let turn = recorded .before .before .before .before in
-    let entry = turn .before .before .before .before .before .before .before .before .before .before .before .before .before .before .before in
-    let l = turn .loop .inv in
-    let run = recorded .next-recording .ensures in
-    let within = passed _ _ _ _ _ _ run _ _ (l .3) in
-    omega (arith, within, entry .pre .1 .1 .0, text-bytes (entry .args .sentence .now))
+cast-base c = omega (arith, few (recorded (cut-done (c .before .before))))
 
 add-base : tie.Need-add-base Inv-loop μ-loop
-add-base c =
-    let cut = c .before .before .before .before .before .before .before .before .before .before .before .before .before .before .before .before .before in
-    let recorded = cut .before .before .before .before .before .before .before .before .before .before .before .before .before .before in
-    let turn = recorded .before .before .before .before in
-    let entry = turn .before .before .before .before .before .before .before .before .before .before .before .before .before .before .before in
-    let l = turn .loop .inv in
-    let run = recorded .next-recording .ensures in
-    let within = passed _ _ _ _ _ _ run _ _ (l .3) in
-    omega (arith, within, entry .pre .1 .1 .0, text-bytes (entry .args .sentence .now))
+add-base c = omega (arith, few (recorded (cut-done (c .before .before))))
 
 loop-less : tie.Need-loop-less Inv-loop μ-loop
 loop-less c =
-    let run = c .before .before .before .before .before .before .before .before .before .before .before .before .before .before .before .before .before .before .before .before .before .before .before .before .before .before .before .before .before .before .before .next-recording .ensures in
+    let run = recorded (cut-done (c .before .before)) .next-recording .ensures in
     omega (arith, run .forward, run .inside)
 
 loop-again : tie.Need-loop-again Inv-loop μ-loop
 loop-again c =
-    let cut = c .before .before .before .before .before .before .before .before .before .before .before .before .before .before .before .before .before in
-    let recorded = cut .before .before .before .before .before .before .before .before .before .before .before .before .before .before in
-    let turn = recorded .before .before .before .before in
-    let entry = turn .before .before .before .before .before .before .before .before .before .before .before .before .before .before .before in
-    let l = turn .loop .inv in
-    let run = recorded .next-recording .ensures in
-    let within = passed _ _ _ _ _ _ run _ _ (l .3) in (
+    let cut = cut-done (c .before .before) in
+    let l = test (recorded cut) .loop .inv in
+    let kept = recorded cut .next-recording .kept in
+    let run = recorded cut .next-recording .ensures in (
       record {
-        long-chars = omega (arith, recorded .next-recording .kept, l .0);
-        long-offsets = omega (arith, recorded .next-recording .kept, l .0);
+        long-chars = omega (arith, kept, l .0);
+        long-offsets = omega (arith, kept, l .0);
         long-starts = omega (arith, cut .cut-block .kept, l .0);
         long-scores = omega (arith, cut .cut-block .kept, l .0);
         long-ends = omega (arith, cut .cut-block .kept, l .0);
@@ -201,7 +172,7 @@ loop-again c =
       },
       run .inside,
       run .well-formed,
-      within,
+      run-within (recorded cut),
       λ b lent.
           gone-on b _ _ _ _ _ _ _ _ _ run _ _ (cut .cut-block .ensures b _ (lent .0) (lent .1) (lent .2) (run .offset)) (sym (c .before .before .number-of .ensures) ∙ c .before .if1 .left)
           ∙ l .4 b lent,
