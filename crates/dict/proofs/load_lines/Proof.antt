@@ -1,6 +1,6 @@
 -- `dict::load_lines` meets its contract. The loop's invariant, `Loading`: the areas are as long as they were, and what the lines from the position on
 -- come to is what the whole text comes to. The measure is what is left of the text, and one for the line's end. Assumes nothing.
-use Prim.Native.Nat.{_+_, _-_}
+use Prim.Native.Nat.{_+_, _-_, _≤_}
 use native.Mathlib.Omega.{arith}
 use lib.ListN.{length}
 use borrow.Author.Needs.{needs}
@@ -21,6 +21,25 @@ abbrev μ-loop : tie.MeasureT-loop
 loop-holds : tie.Need-loop-holds Inv-loop μ-loop
 loop-holds c = begins _ _
 
+-- ---- the places of the code: the book and the text are lent, and a turn finds a line's end, enters the line and numbers the answer
+
+abbrev lent : tie.At-loop Inv-loop μ-loop → tie.Start Inv-loop μ-loop
+lent c = c .before .before .before .before .before .before .before
+
+abbrev ended : tie.After-load-line-arg7 Inv-loop μ-loop → tie.After-line-end Inv-loop μ-loop
+ended c = c .before .before .before .before .before .before .before
+
+abbrev entered : tie.After-number-of Inv-loop μ-loop → tie.After-load-line Inv-loop μ-loop
+entered c = c .before .before .before .before .before .before .before .before .before .before .before .before .before .before
+
+-- the line is a part of the text
+module _ (c : tie.After-line-end Inv-loop μ-loop) where
+  abbrev turn : tie.At-loop Inv-loop μ-loop
+  turn = c .before .before
+
+  inside : (turn .loop .at ≤ c .line-end .result) × (c .line-end .result ≤ length (lent turn .args .text .now))
+  inside = line-inside (turn .loop .inv) (c .before .loop-test .taken) (c .line-end .ensures)
+
 line-end-requires : tie.Need-line-end-requires Inv-loop μ-loop
 line-end-requires c κs = search needs
 
@@ -28,31 +47,20 @@ add-line : tie.Need-add-line Inv-loop μ-loop
 add-line c = omega arith
 
 sub-load-line : tie.Need-sub-load-line Inv-loop μ-loop
-sub-load-line c =
-    let ended = c .before .before .before .before .before .before .before in
-    let turn = ended .before in
-    line-inside (turn .before .loop .inv) (turn .loop-test .taken) (ended .line-end .ensures) .0
+sub-load-line c = inside (ended c) .0
 
 part-load-line-start : tie.Need-part-load-line-start Inv-loop μ-loop
-part-load-line-start c =
-    let ended = c .before .before .before .before .before .before .before in
-    let turn = ended .before in
-    omega (arith, line-inside (turn .before .loop .inv) (turn .loop-test .taken) (ended .line-end .ensures))
+part-load-line-start c = omega (arith, inside (ended c))
 
 part-load-line-end : tie.Need-part-load-line-end Inv-loop μ-loop
-part-load-line-end c =
-    let ended = c .before .before .before .before .before .before .before in
-    let turn = ended .before in
-    omega (arith, line-inside (turn .before .loop .inv) (turn .loop-test .taken) (ended .line-end .ensures))
+part-load-line-end c = omega (arith, inside (ended c))
 
 load-line-requires : tie.Need-load-line-requires Inv-loop μ-loop
 load-line-requires c κs =
-    let ended = c .before .before .before .before .before .before .before .before in
-    let turn = ended .before in
-    let loop = turn .before in
-    let start = loop .before .before .before .before .before .before .before in
-    let long = loop .loop .inv .long in
-    (still-sized long (start .pre .0), (rw (long .tables .keys) (start .pre .1 .0), line-short (loop .loop .inv) (turn .loop-test .taken) (ended .line-end .ensures) (start .pre .1 .1)))
+    let line = ended (c .before) in
+    let loading = turn line .loop .inv in
+    let pre = lent (turn line) .pre in
+    (still-sized (loading .long) (pre .0), (rw (loading .long .tables .keys) (pre .1 .0), line-short loading (line .before .loop-test .taken) (line .line-end .ensures) (pre .1 .1)))
 
 number-of-requires : tie.Need-number-of-requires Inv-loop μ-loop
 number-of-requires c κs = search needs
@@ -80,33 +88,24 @@ same-length-7 c = search needs
 
 returns : tie.Need-returns Inv-loop μ-loop
 returns c =
-    let numbered = c .before in
-    let entered = numbered .before .before .before .before .before .before .before .before .before .before .before .before .before .before in
-    let ended = entered .before .before .before .before .before .before .before .before .before in
-    let turn = ended .before in
-    stops (turn .before .loop .inv) (turn .loop-test .taken) (ended .line-end .ensures) (entered .load-line .ensures) (numbered .number-of .ensures) (c .if1 .taken)
+    let answer = entered (c .before) in
+    let line = ended (answer .before .before) in
+    stops (turn line .loop .inv) (line .before .loop-test .taken) (line .line-end .ensures) (answer .load-line .ensures) (c .before .number-of .ensures) (c .if1 .taken)
 
 add-at : tie.Need-add-at Inv-loop μ-loop
 add-at c =
-    let ended = c .before .before .before .before .before .before .before .before .before .before .before .before .before .before .before .before .before .before .before .before .before .before .before .before in
-    let turn = ended .before in
-    let start = turn .before .before .before .before .before .before .before .before in
-    omega (arith, start .pre .1 .1, line-inside (turn .before .loop .inv) (turn .loop-test .taken) (ended .line-end .ensures))
+    let line = ended (entered (c .before) .before .before) in
+    omega (arith, lent (turn line) .pre .1 .1, inside line)
 
 loop-less : tie.Need-loop-less Inv-loop μ-loop
-loop-less c =
-    let ended = c .before .before .before .before .before .before .before .before .before .before .before .before .before .before .before .before .before .before .before .before .before .before .before .before in
-    let turn = ended .before in
-    omega (arith, line-inside (turn .before .loop .inv) (turn .loop-test .taken) (ended .line-end .ensures))
+loop-less c = omega (arith, inside (ended (entered (c .before) .before .before)))
 
 loop-again : tie.Need-loop-again Inv-loop μ-loop
 loop-again c =
-    let numbered = c .before in
-    let entered = numbered .before .before .before .before .before .before .before .before .before .before .before .before .before .before in
-    let ended = entered .before .before .before .before .before .before .before .before .before in
-    let turn = ended .before in
-    goes-on (turn .before .loop .inv) (turn .loop-test .taken) (ended .line-end .ensures) (entered .load-line .ensures) (numbered .number-of .ensures) (c .if1 .left)
-    (kept-long _ _ (entered .load-line .kept))
+    let answer = entered (c .before) in
+    let line = ended (answer .before .before) in
+    goes-on (turn line .loop .inv) (line .before .loop-test .taken) (line .line-end .ensures) (answer .load-line .ensures) (c .before .number-of .ensures) (c .if1 .left)
+    (kept-long _ _ (answer .load-line .kept))
 
 same-length-8 : tie.Need-same-length-8 Inv-loop μ-loop
 same-length-8 c = search

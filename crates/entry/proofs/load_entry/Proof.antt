@@ -1,43 +1,88 @@
--- `entry::load_entry` meets its contract: each `return` is the case that the decision says, with the areas as the writes leave them. Assumes nothing.
+-- `entry::load_entry` meets its contract: each `return` is the case that the decision says, with the areas as the writes leave them. What the sizes, the test
+-- of the head and the decision promise is said once, of the places of the code after them. Assumes nothing.
 use native.Mathlib.Omega.{arith}
 use mir.Facts.{toZ-ofZ}
 use borrow.Author.Needs.{needs}
-use mathlib.Core.Path.{sym, _∙_}
+use mathlib.Core.Path.{_≡_, sym, _∙_}
+use mathlib.Core.Bool.{false}
+use Prim.Native.Nat.{_<_, _≤_}
+use lib.ListN.{length}
 use Rattle.insert.specs.Insert.{characters}
-use Rattle.book.proofs.Sizes.{sizes, head-within}
+use Rattle.book.specs.Returns.{headDamaged}
+use Rattle.book.proofs.Sizes.{sizes, HeadWithin, head-within}
 use Rattle.book.proofs.Areas.{slot-count, slots-most, equally-long}
-use Rattle.entry.proofs.Bounds.{record-held, room-left, insert-sizes}
+use Rattle.entry.proofs.Bounds.{Inserts, record-held, room-left, insert-sizes}
 use Rattle.entry.proofs.Entering.{head-damaged, refused, replaced-by, inserted-by}
 use Rattle.entry.proofs.load_entry.Statement.{statement}
 use Rattle.entry.proofs.load_entry.Tie as tie
 
+-- ---- the places of the code: the book is lent, its head passes the test, the decision is taken, the word is inserted, its record is set
+
+abbrev lent : tie.After-shared-slice-known → tie.Start
+lent c = c .before .before .before .before .before .before
+
+abbrev sound : tie.After-decide-arg6 → tie.Else1
+sound c = c .before .before .before .before .before .before
+
+abbrev book : tie.Else1 → tie.Start
+book c = lent (c .before .before)
+
+abbrev replaces : tie.After-set-record-arg2 → tie.After-decision2
+replaces c = c .before .before .before
+
+abbrev inserts : tie.After-struct-known → tie.After-decision3
+inserts c = c .before .before .before .before .before .before .before
+
+abbrev inserted : tie.After-set-record-arg4 → tie.After-insert
+inserted c = c .before .before .before .before .before .before .before .before .before .before
+
+abbrev chosen : tie.After-set-record-arg4 → tie.After-decision3
+chosen c = inserts (inserted c .before .before)
+
+abbrev stored : tie.After-struct-known3 → tie.After-set-record2
+stored c = c .before .before .before .before .before
+
+-- there are as many logarithms as frequencies, and not many
+few-records : (c : tie.Start) → (length (c .args .logarithms .now) ≡ length (c .args .frequencies .now)) × (length (c .args .frequencies .now) ≤ 1048576)
+few-records c = let s = sizes _ _ _ _ _ _ _ (c .pre .0) in (s .record-logarithms, s .records-most)
+
+-- the head is not damaged, so its numbers are small
+module _ (c : tie.Else1) where
+  undamaged : headDamaged (book c .args .head) (length (book c .args .frequencies .now)) (length (book c .args .keys .now)) ≡ false
+  undamaged = sym (c .before .is-head-damaged .ensures) ∙ c .if1 .left
+
+  within : HeadWithin (book c .args .head) (length (book c .args .frequencies .now)) (length (book c .args .keys .now))
+  within = head-within _ _ _ undamaged
+
+-- a word is replaced in a record that is used
+module _ (c : tie.After-decision2) where
+  abbrev replacing : tie.Else1
+  replacing = sound (c .before .before .before)
+
+  held : c .decision2 .given .0 .0 < book replacing .args .head .records
+  held = record-held _ _ _ _ _ (c .before .before .decide .ensures) (c .decision2 .given .1)
+
+-- a word is inserted where there is room
+module _ (c : tie.After-decision3) where
+  abbrev inserting : tie.Else1
+  inserting = sound (c .before .before .before)
+
+  room : Inserts (book inserting .args .head) (length (book inserting .args .frequencies .now)) (length (book inserting .args .keys .now)) (c .decision3 .given .0 .0) (c .decision3 .given .0 .1 .0)
+  room = room-left _ _ _ _ _ (c .before .before .decide .ensures) (c .decision3 .given .1)
+
 is-head-damaged-requires : tie.Need-is-head-damaged-requires
-is-head-damaged-requires c κs =
-    let start = c .before .before .before .before .before .before in
-    slots-most _ _ _ _ _ _ _ (start .pre .0)
+is-head-damaged-requires c κs = slots-most _ _ _ _ _ _ _ (lent c .pre .0)
 
 returns : tie.Need-returns
-returns c =
-    let head = c .before in
-    let start = head .before .before .before .before .before .before .before in
-    head-damaged _ _ _ _ _ _ (start .pre .1 .1) (head .is-head-damaged .ensures) (c .if1 .taken)
+returns c = head-damaged _ _ _ _ _ _ (lent (c .before .before) .pre .1 .1) (c .before .is-head-damaged .ensures) (c .if1 .taken)
 
 decide-requires : tie.Need-decide-requires
 decide-requires c κs =
-    let sound = c .before .before .before .before .before .before in
-    let head = sound .before in
-    let start = head .before .before .before .before .before .before .before in
-    let areas = start .pre .0 in (
-      equally-long _ _ _ _ _ _ _ areas,
+    let pre = book (sound c) .pre in (
+      equally-long _ _ _ _ _ _ _ (pre .0),
       (
-        slot-count _ _ _ _ _ _ _ areas,
-        (
-          start .pre .1 .0,
-          (
-            sym (head .is-head-damaged .ensures) ∙ sound .if1 .left,
-            (start .pre .1 .1, start .pre .1 .2, omega arith, sizes _ _ _ _ _ _ _ areas .records-most),
-          ),
-        ),
+        slot-count _ _ _ _ _ _ _ (pre .0),
+        (pre .1 .0, (undamaged (sound c), (pre .1 .1, pre .1 .2, omega arith, few-records (book (sound c)) .1))),
       ),
     )
 
@@ -49,14 +94,8 @@ enum-known-decision-2 c = search needs
 
 set-record-requires : tie.Need-set-record-requires
 set-record-requires c κs =
-    let replaces = c .before .before .before in
-    let decided = replaces .before .before in
-    let sound = decided .before .before .before .before .before .before .before in
-    let head = sound .before in
-    let start = head .before .before .before .before .before .before .before in
-    let held = record-held _ _ _ _ _ (decided .decide .ensures) (replaces .decision2 .given .1) in
-    let within = head-within _ _ _ (sym (head .is-head-damaged .ensures) ∙ sound .if1 .left) in
-    omega (arith, held, within, sizes _ _ _ _ _ _ _ (start .pre .0))
+    let passed = replacing (replaces c) in
+    omega (arith, held (replaces c), within passed, few-records (book passed))
 
 replaced-requires : tie.Need-replaced-requires
 replaced-requires c κs = search needs
@@ -65,56 +104,34 @@ enum-known-decision-3 : tie.Need-enum-known-decision-3
 enum-known-decision-3 c = search needs
 
 cast-insert : tie.Need-cast-insert
-cast-insert c =
-    let sound = c .before .before .before .before .before .before .before .before .before .before .before .before .before .before .before .before in
-    omega (arith, head-within _ _ _ (sym (sound .before .is-head-damaged .ensures) ∙ sound .if1 .left))
+cast-insert c = omega (arith, within (inserting (inserts c)))
 
 cast-insert-2 : tie.Need-cast-insert-2
 cast-insert-2 c =
-    let sound = c .before .before .before .before .before .before .before .before .before .before .before .before .before .before .before .before .before in
-    let head = sound .before in
-    let start = head .before .before .before .before .before .before .before in
-    let within = head-within _ _ _ (sym (head .is-head-damaged .ensures) ∙ sound .if1 .left) in
-    omega (arith, within, sizes _ _ _ _ _ _ _ (start .pre .0))
+    let passed = inserting (inserts (c .before)) in
+    omega (arith, within passed, few-records (book passed))
 
 insert-requires : tie.Need-insert-requires
 insert-requires c κs =
-    let sound = c .before .before .before .before .before .before .before .before .before .before .before .before .before .before .before .before .before in
-    let head = sound .before in
-    let start = head .before .before .before .before .before .before .before in
-    let within = head-within _ _ _ (sym (head .is-head-damaged .ensures) ∙ sound .if1 .left) in
-    (insert-sizes _ _ _ _ _ _ _ _ (start .pre .0) (start .pre .1 .0), (start .pre .1 .1, omega (arith, within, start .pre .1)))
+    let passed = inserting (inserts (c .before)) in
+    let pre = book passed .pre in
+    (insert-sizes _ _ _ _ _ _ _ _ (pre .0) (pre .1 .0), (pre .1 .1, omega (arith, within passed, pre .1)))
 
 set-record-requires-2 : tie.Need-set-record-requires-2
-set-record-requires-2 c κs =
-    let inserts = c .before .before .before .before .before .before .before .before .before .before .before .before .before .before .before .before .before .before .before in
-    let decided = inserts .before .before in
-    let start = decided .before .before .before .before .before .before .before .before .before .before .before .before .before .before .before in
-    let room = room-left _ _ _ _ _ (decided .decide .ensures) (inserts .decision3 .given .1) in
-    omega (arith, room, sizes _ _ _ _ _ _ _ (start .pre .0))
+set-record-requires-2 c κs = omega (arith, room (chosen c), few-records (book (inserting (chosen c))))
 
 add-t61 : tie.Need-add-t61
 add-t61 c =
-    let inserts = c .before .before .before .before .before .before .before .before .before .before .before .before .before .before .before .before .before .before .before .before .before .before .before .before .before in
-    let decided = inserts .before .before in
-    let start = decided .before .before .before .before .before .before .before .before .before .before .before .before .before .before .before in
-    let room = room-left _ _ _ _ _ (decided .decide .ensures) (inserts .decision3 .given .1) in
-    omega (arith, room, sizes _ _ _ _ _ _ _ (start .pre .0))
+    let decision = chosen (stored c .before) in
+    omega (arith, room decision, few-records (book (inserting decision)))
 
 add-t62 : tie.Need-add-t62
 add-t62 c =
-    let inserts = c .before .before .before .before .before .before .before .before .before .before .before .before .before .before .before .before .before .before .before .before .before .before .before .before .before .before in
-    let decided = inserts .before .before in
-    let start = decided .before .before .before .before .before .before .before .before .before .before .before .before .before .before .before in
-    let room = room-left _ _ _ _ _ (decided .decide .ensures) (inserts .decision3 .given .1) in
-    omega (arith, room, slots-most _ _ _ _ _ _ _ (start .pre .0))
+    let decision = chosen (stored (c .before) .before) in
+    omega (arith, room decision, slots-most _ _ _ _ _ _ _ (book (inserting decision) .pre .0))
 
 add-t63 : tie.Need-add-t63
-add-t63 c =
-    let inserts = c .before .before .before .before .before .before .before .before .before .before .before .before .before .before .before .before .before .before .before .before .before .before .before .before .before .before .before in
-    let decided = inserts .before .before in
-    let room = room-left _ _ _ _ _ (decided .decide .ensures) (inserts .decision3 .given .1) in
-    omega (arith, room)
+add-t63 c = omega (arith, room (chosen (stored (c .before .before) .before)))
 
 same-length : tie.Need-same-length
 same-length c = search needs
@@ -136,12 +153,9 @@ same-length-6 c = search needs
 
 returns-2 : tie.Need-returns-2
 returns-2 c =
-    let refuses = c .before in
-    let decided = refuses .before .before in
-    let sound = decided .before .before .before .before .before .before .before in
-    let head = sound .before in
-    let start = head .before .before .before .before .before .before .before in
-    refused _ _ _ _ _ _ (start .pre .1 .1) (head .is-head-damaged .ensures) (sound .if1 .left) (decided .decide .ensures) (refuses .decision .given .1)
+    let decided = c .before .before .before in
+    let passed = sound (decided .before) in
+    refused _ _ _ _ _ _ (book passed .pre .1 .1) (passed .before .is-head-damaged .ensures) (passed .if1 .left) (decided .decide .ensures) (c .before .decision .given .1)
 
 same-length-7 : tie.Need-same-length-7
 same-length-7 c = search needs
@@ -166,14 +180,12 @@ same-length-13 c = search needs
 
 returns-3 : tie.Need-returns-3
 returns-3 c =
-    let stored = c .before .before .before .before .before in
-    let replaces = stored .before .before .before .before in
-    let decided = replaces .before .before in
-    let sound = decided .before .before .before .before .before .before .before in
-    let head = sound .before in
-    let start = head .before .before .before .before .before .before .before in
-    replaced-by _ _ _ _ _ _ (start .pre .1 .1) (head .is-head-damaged .ensures) (sound .if1 .left) (decided .decide .ensures) (replaces .decision2 .given .1)
-    _ (stored .set-record .ensures .0) _ (stored .set-record .ensures .1) (c .replaced .ensures)
+    let written = c .before .before .before .before .before in
+    let decision = replaces (written .before) in
+    let decided = decision .before .before in
+    let passed = replacing decision in
+    replaced-by _ _ _ _ _ _ (book passed .pre .1 .1) (passed .before .is-head-damaged .ensures) (passed .if1 .left) (decided .decide .ensures) (decision .decision2 .given .1)
+    _ (written .set-record .ensures .0) _ (written .set-record .ensures .1) (c .replaced .ensures)
 
 same-length-14 : tie.Need-same-length-14
 same-length-14 c = search needs
@@ -199,16 +211,13 @@ same-length-20 c = search needs
 returns-4 : tie.Need-returns-4
 unfolding characters
 returns-4 c =
-    let stored = c .before .before .before .before .before .before .before in
-    let walked = stored .before .before .before .before .before .before .before .before .before .before .before in
-    let cast = walked .before in
-    let inserts = cast .before .before .before .before .before .before .before .before in
-    let decided = inserts .before .before in
-    let sound = decided .before .before .before .before .before .before .before in
-    let head = sound .before in
-    let start = head .before .before .before .before .before .before .before in
-    inserted-by _ _ _ _ _ _ (start .pre .1 .1) (head .is-head-damaged .ensures) (sound .if1 .left) (decided .decide .ensures) (inserts .decision3 .given .1)
-    _ (toZ-ofZ (cast-insert-2 cast)) _ (walked .insert .ensures) _ (stored .set-record2 .ensures .0) _ (stored .set-record2 .ensures .1)
+    let written = stored (c .before .before) in
+    let walked = inserted (written .before) in
+    let decision = chosen (written .before) in
+    let decided = decision .before .before in
+    let passed = inserting decision in
+    inserted-by _ _ _ _ _ _ (book passed .pre .1 .1) (passed .before .is-head-damaged .ensures) (passed .if1 .left) (decided .decide .ensures) (decision .decision3 .given .1)
+    _ (toZ-ofZ (cast-insert-2 (walked .before))) _ (walked .insert .ensures) _ (written .set-record2 .ensures .0) _ (written .set-record2 .ensures .1)
 
 pub load-entry-spec : {M : Type 1} → statement M
 load-entry-spec =

@@ -7,10 +7,21 @@ use Rattle.insert.proofs.Marks.{inserted, not-inserted, place-ready, re
 use Rattle.insert.proofs.insert.Statement.{statement}
 use Rattle.insert.proofs.insert.Tie as tie
 
+-- ---- the places of the code: the tables and the word are lent, the steps that are there are marked, and the place to extend from is known
+
+abbrev lent : tie.After-mark-arg3 → tie.Start
+lent c = c .before .before .before .before .before .before .before
+
+abbrev marked : tie.After-slice-known6 → tie.After-mark
+marked c = c .before .before .before .before .before .before
+
+abbrev placed : tie.After-extend-arg5 → tie.After-place
+placed c = c .before .before .before .before .before .before
+
 mark-requires : tie.Need-mark-requires
 mark-requires c κs =
-    let start = c .before .before .before .before .before .before .before in
-    (start .pre .0 .slotCount, (start .pre .0 .shifted, (start .pre .0 .childLengths, start .pre .1 .0)))
+    let pre = lent c .pre in
+    (pre .0 .slotCount, (pre .0 .shifted, (pre .0 .childLengths, pre .1 .0)))
 
 enum-known-place : tie.Need-enum-known-place
 enum-known-place c = search needs
@@ -28,20 +39,18 @@ same-length-3 : tie.Need-same-length-3
 same-length-3 c = search needs
 
 returns : tie.Need-returns
-returns c =
-    let marks = c .before .before .before .before .before .before .before .before in
-    not-inserted _ _ _ _ _ _ _ (marks .mark .ensures .1 _ _) (c .enum-told .given .1)
+returns c = not-inserted _ _ _ _ _ _ _ (marked (c .before .before) .mark .ensures .1 _ _) (c .enum-told .given .1)
 
 extend-requires : tie.Need-extend-requires
 extend-requires c κs =
-    let place = c .before .before .before .before .before .before in
-    let marks = place .before .before .before .before .before .before .before .before in
-    let start = marks .before .before .before .before .before .before .before .before in
+    let place = placed c in
+    let marks = marked (place .before .before) in
+    let pre = lent (marks .before) .pre in
     let kept = marks .mark .kept in (
-      sizes-same _ _ _ _ _ _ _ _ _ _ _ (kept .0) refl (kept .1 .0) (kept .1 .1 .0) refl (start .pre .0),
+      sizes-same _ _ _ _ _ _ _ _ _ _ _ (kept .0) refl (kept .1 .0) (kept .1 .1 .0) refl (pre .0),
       (
         inside-same _ _ _ _ _ (kept .0) (kept .1 .0) (place-ready _ _ _ _ (marks .mark .ensures .0) _ _ (place .place .given .1)),
-        (rest-ready _ _ _ _ (marks .mark .ensures .0) _ _ (place .place .given .1), start .pre .1 .1),
+        (rest-ready _ _ _ _ (marks .mark .ensures .0) _ _ (place .place .given .1), pre .1 .1),
       ),
     )
 
@@ -62,10 +71,10 @@ same-length-8 c = search needs
 
 returns-2 : tie.Need-returns-2
 returns-2 c =
-    let ext = c .before .before .before .before .before .before .before .before in
-    let place = ext .before .before .before .before .before .before .before in
-    let marks = place .before .before .before .before .before .before .before .before in
-    inserted _ _ _ _ _ _ _ (marks .mark .ensures .1 _ _) _ _ _ (place .place .given .1) (rw (toZ-ofZ (marks .before .before .before .before .before .before .before .before .fits .number)) at (ext .extend .ensures))
+    let extended = c .before .before .before .before .before .before .before .before in
+    let place = placed (extended .before) in
+    let marks = marked (place .before .before) in
+    inserted _ _ _ _ _ _ _ (marks .mark .ensures .1 _ _) _ _ _ (place .place .given .1) (rw (toZ-ofZ (lent (marks .before) .fits .number)) at (extended .extend .ensures))
 
 pub insert-spec : {M : Type 1} → statement M
 insert-spec =

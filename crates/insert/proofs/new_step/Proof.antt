@@ -7,11 +7,31 @@ use Rattle.insert.proofs.NewSteps.{empty-below, new-entry-made, no-empt
 use Rattle.insert.proofs.new_step.Statement.{statement}
 use Rattle.insert.proofs.new_step.Tie as tie
 
+-- ---- the places of the code: the tables are lent, the step is at the root, or below it, where its key is known, an empty slot is found, and the bits are set
+
+abbrev lent : tie.Else1 → tie.Start
+lent c = c .before .before .before .before .before .before
+
+abbrev at-root : tie.After-new-root-entry-arg2 → tie.Then1
+at-root c = c .before .before
+
+abbrev below-root : tie.After-key → tie.Else1
+below-root c = c .before .before .before .before
+
+abbrev keyed : tie.After-first-empty → tie.After-key
+keyed c = c .before .before
+
+abbrev found : tie.After-set-bits → tie.After-i
+found c = c .before .before .before .before .before
+
+abbrev marked : tie.After-new-slot-arg3 → tie.After-set-bits
+marked c = c .before .before .before .before .before .before .before .before .before
+
 from-root-requires : tie.Need-from-root-requires
 from-root-requires c κs = search needs
 
 new-root-entry-requires : tie.Need-new-root-entry-requires
-new-root-entry-requires c κs = (has-entry _ _ _ _ (c .before .before .before .from-root .ensures) (c .before .before .if1 .taken), search needs)
+new-root-entry-requires c κs = (has-entry _ _ _ _ (at-root c .before .from-root .ensures) (at-root c .if1 .taken), search needs)
 
 same-length : tie.Need-same-length
 same-length c = search needs
@@ -22,7 +42,7 @@ same-length-2 c = search needs
 returns : tie.Need-returns
 returns c =
     let made = c .before .before .before in
-    let taken = made .before .before .before in
+    let taken = at-root (made .before) in
     new-entry-made _ _ _ _ _ (taken .before .from-root .ensures _ _ _ _) _ (taken .if1 .taken) (made .new-root-entry .ensures _ _ _)
 
 node-at-requires : tie.Need-node-at-requires
@@ -48,20 +68,21 @@ same-length-5 c = search needs
 
 returns-2 : tie.Need-returns-2
 returns-2 c =
-    let keyed = c .before .before .before in
-    let left = keyed .before .before .before .before in
-    no-empty-slot _ _ _ _ _ (left .before .from-root .ensures _ _ _ _) (left .if1 .left) _ _ (keyed .before .node-at .ensures _ _ _) (keyed .key .ensures) _ (c .before .first-empty .ensures) (c .match .keys2)
+    let key = keyed (c .before) in
+    let left = below-root key in
+    no-empty-slot _ _ _ _ _ (left .before .from-root .ensures _ _ _ _) (left .if1 .left) _ _ (key .before .node-at .ensures _ _ _) (key .key .ensures) _ (c .before .first-empty .ensures) (c .match .keys2)
 
 set-bits-requires : tie.Need-set-bits-requires
 set-bits-requires c κs = search needs
 
 new-slot-requires : tie.Need-new-slot-requires
 new-slot-requires c κs =
-    let bits = c .before .before .before .before .before .before .before .before .before in
-    let found = bits .before .before .before .before .before in
-    let start = found .before .before .before .before .before .before .before .before .before .before .before .before .before .before in
-    let below = empty-below _ _ _ _ (start .pre .0 .slotCount) (found .before .before .first-empty .ensures) (found .i .given .1) in
-    (omega (arith, bits .set-bits .kept), (omega (arith, bits .set-bits .kept, start .pre .0), omega (arith, bits .set-bits .kept, start .pre .0)))
+    let slot = found (marked c) in
+    let searched = slot .before .before in
+    let sizes = lent (below-root (keyed searched)) .pre .0 in
+    let kept = marked c .set-bits .kept in
+    let below = empty-below _ _ _ _ (sizes .slotCount) (searched .first-empty .ensures) (slot .i .given .1) in
+    (omega (arith, kept), (omega (arith, kept, sizes), omega (arith, kept, sizes)))
 
 same-length-6 : tie.Need-same-length-6
 same-length-6 c = search needs
@@ -78,13 +99,13 @@ same-length-9 c = search needs
 returns-3 : tie.Need-returns-3
 returns-3 c =
     let made = c .before .before .before .before .before in
-    let bits = made .before .before .before .before .before .before .before .before .before .before in
-    let found = bits .before .before .before .before .before in
-    let searched = found .before .before in
-    let keyed = searched .before .before in
-    let left = keyed .before .before .before .before in
-    new-slot-made _ _ _ _ _ (left .before .from-root .ensures _ _ _ _) (left .if1 .left) _ _ (keyed .before .node-at .ensures _ _ _) (keyed .key .ensures) _ (searched .first-empty .ensures)
-    _ _ _ (found .i .given .1) (bits .set-bits .ensures _ _) (made .new-slot .ensures _ _)
+    let bits = marked (made .before) in
+    let slot = found bits in
+    let searched = slot .before .before in
+    let key = keyed searched in
+    let left = below-root key in
+    new-slot-made _ _ _ _ _ (left .before .from-root .ensures _ _ _ _) (left .if1 .left) _ _ (key .before .node-at .ensures _ _ _) (key .key .ensures) _ (searched .first-empty .ensures)
+    _ _ _ (slot .i .given .1) (bits .set-bits .ensures _ _) (made .new-slot .ensures _ _)
 
 pub new-step-spec : {M : Type 1} → statement M
 new-step-spec =
