@@ -1,7 +1,8 @@
 //! Characters of a text in UTF-8, by RFC 3629.
 //!
 //! The Rust gets its texts as `&str`, already checked. The bridge gets bytes, so the check stands here: whatever
-//! RFC 3629 does not allow is malformed, overlong forms and surrogates among them.
+//! RFC 3629 does not allow is malformed, overlong forms and surrogates among them. After the check a text's characters
+//! are read without tests, as the Rust reads a `&str`.
 ghost use mathlib.Core.Path.{_≡_};
 ghost use mathlib.Core.List.{List, _∷_};
 ghost use mathlib.Core.Option.{IsSome};
@@ -11,6 +12,14 @@ ghost use Rattle.utf8.specs.declared.Character.the-variants.{Char};
 ghost use Rattle.utf8.specs.Characters.{readFrom, characterAt};
 ghost use Rattle.utf8.specs.Tails.{Tail, TailAt};
 ghost use Rattle.utf8.specs.Text.{charsOf, charsFrom, countOf};
+
+// The bytes of a character are put together six bits after six bits, with the marks that RFC 3629 gives them: 110 and 10
+// of two bytes, 1110 and 10 twice of three, 11110 and 10 three times of four. This is what the marks add to the value.
+const TWO_MARKS: u32 = 0x3080;
+
+const THREE_MARKS: u32 = 0xE_2080;
+
+const FOUR_MARKS: u32 = 0x3C8_2080;
 
 // What stands at a position of a text.
 pub enum Character {
@@ -57,10 +66,10 @@ fn tail_at(s: &[u8], at: usize) -> u32
 fn two_bytes(c: u32) -> Character
     ensures { λ r. ⌜ ((b0 b1 : ℕ) (rest : List ℕ) → Tail b1 → (0x80 ≤ b0) × (b0 < 0xE0) → c ≡ b0 * 0x40 + b1 → r ≡ readFrom (b0 ∷ b1 ∷ rest)) ⌝ }
 {
-    if c < 0x3100 {
+    if c < TWO_MARKS + 0x80 {
         return Character::Malformed;
     }
-    Character::Char(c - 0x3080, 2)
+    Character::Char(c - TWO_MARKS, 2)
 }
 
 // What a lead byte from 0xE0 to 0xEF and two tails spell. Below U+0800 it is an overlong form; the surrogates are the 2,048
@@ -69,7 +78,7 @@ fn three_bytes(c: u32) -> Character
     requires { ⌜ 0xE_2080 ≤ c ⌝ }
     ensures { λ r. ⌜ ((b0 b1 b2 : ℕ) (rest : List ℕ) → Tail b1 → Tail b2 → (0xE0 ≤ b0) × (b0 < 0xF0) → c ≡ (b0 * 0x40 + b1) * 0x40 + b2 → r ≡ readFrom (b0 ∷ b1 ∷ b2 ∷ rest)) ⌝ }
 {
-    let value = c - 0xE_2080;
+    let value = c - THREE_MARKS;
     let run = value / 0x800;
     if run == 0 {
         return Character::Malformed;
@@ -85,7 +94,7 @@ fn four_bytes(c: u32) -> Character
     requires { ⌜ 0x3C8_2080 ≤ c ⌝ }
     ensures { λ r. ⌜ ((b0 b1 b2 b3 : ℕ) (rest : List ℕ) → Tail b1 → Tail b2 → Tail b3 → 0xF0 ≤ b0 → c ≡ ((b0 * 0x40 + b1) * 0x40 + b2) * 0x40 + b3 → r ≡ readFrom (b0 ∷ b1 ∷ b2 ∷ b3 ∷ rest)) ⌝ }
 {
-    let value = c - 0x3C8_2080;
+    let value = c - FOUR_MARKS;
     if value < 0x1_0000 {
         return Character::Malformed;
     }
@@ -145,20 +154,20 @@ pub fn next_char(s: &[u8], at: usize) -> NextChar
     let c1 = b0 * 0x40 + wide(s[at + 1]);
     if b0 < 0xE0 {
         return NextChar {
-            value: c1 - 0x3080,
+            value: c1 - TWO_MARKS,
             width: 2,
         };
     }
     let c2 = c1 * 0x40 + wide(s[at + 2]);
     if b0 < 0xF0 {
         return NextChar {
-            value: c2 - 0xE_2080,
+            value: c2 - THREE_MARKS,
             width: 3,
         };
     }
     let c3 = c2 * 0x40 + wide(s[at + 3]);
     NextChar {
-        value: c3 - 0x3C8_2080,
+        value: c3 - FOUR_MARKS,
         width: 4,
     }
 }
