@@ -44,13 +44,13 @@ bit-le m = by-outcome m (λ bit next. bit ≤ 1) (λ h. omega arith) (λ h. omeg
 pub square-low : (m : ℕ) → Normal m → 2 ^ 62 ≤ m * m
 square-low m normal = mul-le-mul (normal .low) (normal .low)
 
-pub square-high : (m : ℕ) → Normal m → m * m < 2 ^ 64
-square-high m normal = let top : m ≤ 2 ^ 32 - 1 = omega arith in omega (arith, mul-le-mul top top)
+pub square-below : (m : ℕ) → m < 2 ^ 32 → m * m < 2 ^ 64
+square-below m below = let top : m ≤ 2 ^ 32 - 1 = omega arith in omega (arith, mul-le-mul top top)
 
 pub next-normal : (m : ℕ) → Normal m → Normal (nextSignificand m)
 next-normal m normal =
     let low = square-low m normal in
-    let high = square-high m normal in
+    let high = square-below m (normal .high) in
     by-outcome m (λ bit next. Normal next) (λ h. omega (arith, low, high)) (λ h. omega (arith, low, high))
 
 -- ---- many squarings

@@ -12,7 +12,7 @@ use mir.Syntax.{w64}
 use mir.Val.{Fits}
 use Rattle.score.specs.Logarithm.{significand, nextBit, nextSignificand, bitsOf, logOf}
 use Rattle.score.proofs.HighestOne.{position, significand-normal, shifted}
-use Rattle.score.proofs.Squarings.{Normal, outcome-one, outcome-zero, square-high, next-normal, bits-of-none, bits-of-more, bits-lt}
+use Rattle.score.proofs.Squarings.{Normal, outcome-one, outcome-zero, square-below, next-normal, bits-of-none, bits-of-more, bits-lt}
 
 -- what holds before each turn
 pub record Turns (n m bits left : ℕ) : Type 0 where
@@ -61,24 +61,47 @@ turned n m bits (suc k) m' bits' turns more m-next bits-next =
       collected = collected;
     })
 
+-- the code keeps the square of m alone
+pub record Squared (n p bits left : ℕ) : Type 0 where
+  pub m : ℕ
+  pub square : p ≡ m * m
+  pub turns : Turns n m bits left
+
+pub starts-squared : (n p : ℕ) → 0 < n → n < 2 ^ 32 → p ≡ (n * 2 ^ leadingZeros 32 n % 2 ^ 64) * (n * 2 ^ leadingZeros 32 n % 2 ^ 64) → Squared n p 0 24
+starts-squared n p some fits square = record { m = n * 2 ^ leadingZeros 32 n % 2 ^ 64; square = square; turns = starts n some fits }
+
 -- a turn of the code, where its test holds and where it fails
-module _ (n m bits left m' bits' : ℕ) (turns : Turns n m bits left) (more : 0 < left) where
-  pub turn-one : 2 ^ 63 ≤ m * m → m' ≡ m * m / 2 ^ 32 → bits' ≡ bits * 2 + 1 → Turns n m' bits' (left - 1)
-  turn-one passed m-next bits-next =
-      let outcome = outcome-one m passed in
-      turned n m bits left m' bits' turns more (m-next ∙ sym (outcome .1)) (omega arith)
+module _ (n p bits left p' bits' : ℕ) (squared : Squared n p bits left) (more : 0 < left) where
+  pub turn-one : 2 ^ 63 ≤ p → p' ≡ (p / 2 ^ 32) * (p / 2 ^ 32) → bits' ≡ bits * 2 + 1 → Squared n p' bits' (left - 1)
+  turn-one passed next bits-next =
+      let same = squared .square in
+      let outcome = outcome-one (squared .m) (rw same at passed) in
+      record {
+        m = p / 2 ^ 32;
+        square = next;
+        turns = turned n (squared .m) bits left (p / 2 ^ 32) bits' (squared .turns) more (rw same (sym (outcome .1))) (omega (arith, outcome .0));
+      }
 
-  pub turn-zero : m * m < 2 ^ 63 → m' ≡ m * m / 2 ^ 31 → bits' ≡ bits * 2 → Turns n m' bits' (left - 1)
-  turn-zero failed m-next bits-next =
-      let outcome = outcome-zero m failed in
-      turned n m bits left m' bits' turns more (m-next ∙ sym (outcome .1)) (omega arith)
+  pub turn-zero : p < 2 ^ 63 → p' ≡ (p / 2 ^ 31 % 2 ^ 32) * (p / 2 ^ 31 % 2 ^ 32) → bits' ≡ bits * 2 → Squared n p' bits' (left - 1)
+  turn-zero failed next bits-next =
+      let same = squared .square in
+      let outcome = outcome-zero (squared .m) (rw same at failed) in
+      let whole : p / 2 ^ 31 % 2 ^ 32 ≡ p / 2 ^ 31 = omega arith in
+      record {
+        m = p / 2 ^ 31;
+        square = rw whole at next;
+        turns = turned n (squared .m) bits left (p / 2 ^ 31) bits' (squared .turns) more (rw same (sym (outcome .1))) (omega (arith, outcome .0));
+      }
 
--- the square fits the code's 64 bits
-pub square-fits : (m : ℕ) → Normal m → Fits w64 (m * m)
-square-fits m normal = record { fits = square-high m normal }
+pub squared-below : (n p bits left : ℕ) → Squared n p bits left → p < 2 ^ 64
+squared-below n p bits left squared = rw (squared .square) (square-below (squared .m) (squared .turns .normal .high))
+
+-- the squares fit the code's 64 bits
+pub square-fits : (x : ℕ) → x < 2 ^ 32 → Fits w64 (x * x)
+square-fits x below = record { fits = square-below x below }
 
 -- after the last turn
-pub ends : (n m bits left : ℕ) → 0 < n → n < 2 ^ 32 → Turns n m bits left → left ≤ 0 → (31 - leadingZeros 32 n) * 2 ^ 24 + bits ≡ logOf n
+pub ends : (n p bits left : ℕ) → 0 < n → n < 2 ^ 32 → Squared n p bits left → left ≤ 0 → (31 - leadingZeros 32 n) * 2 ^ 24 + bits ≡ logOf n
 unfolding logOf
-ends n m bits zero some fits turns none = omega (arith, position n some fits, turns .collected, bits-of-none m)
-ends n m bits (suc k) some fits turns none = absurd (omega arith)
+ends n p bits zero some fits squared none = omega (arith, position n some fits, squared .turns .collected, bits-of-none (squared .m))
+ends n p bits (suc k) some fits squared none = absurd (omega arith)

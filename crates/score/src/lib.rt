@@ -14,23 +14,29 @@ pub fn minus_infinity() -> f64
     f64::from_bits(0xfff0_0000_0000_0000)
 }
 
-// L of an n of at least 1, as a whole number. m / 2^31 is n less its power of two, from 1 to below 2. Its square has twice the
-// logarithm, so the next bit is whether the square is 2 or more.
+// L of an n of at least 1, as a whole number. m / 2^31 is n less its power of two, from 1 to below 2, and p is its square, which
+// has twice the logarithm: the next bit is whether p is 2^63 or more. The squares that may come next are both worked out before
+// that is tested, the second modulo 2^32 so that it fits where it is not taken. The compiler then makes the test a jump, and not
+// a shift by what it finds; a total's jumps are the same at every cut, so that the machine foresees them.
 pub fn log_scaled(n: u32) -> u64
     requires { ⌜ 0 < n ⌝ }
     ensures { λ r. ⌜ r ≡ logOf n ⌝ }
 {
     let zeros = u32::leading_zeros(n);
-    let mut m = (n as u64) << zeros;
+    let m = (n as u64) << zeros;
+    let mut p = m * m;
     let mut bits: u64 = 0;
     let mut left: u32 = 24;
     while 0 < left {
-        let p = m * m;
+        let high = p >> 32;
+        let low = (p >> 31) % 0x1_0000_0000;
+        let after_one = high * high;
+        let after_zero = low * low;
         if p >= 0x8000_0000_0000_0000 {
-            m = p >> 32;
+            p = after_one;
             bits = bits * 2 + 1;
         } else {
-            m = p >> 31;
+            p = after_zero;
             bits = bits * 2;
         }
         left -= 1;

@@ -1,18 +1,18 @@
--- `score::log_scaled` meets its contract. The loop's invariant is `Turns`: the bits so far, with those of the squarings left, are the definition's.
+-- `score::log_scaled` meets its contract. The loop's invariant is `Squared`: the bits so far, with those of the squarings left, are the definition's.
 -- The measure is the number of turns left. That the leading zeros are at most 31 is `position`.
 -- Assumes nothing.
 use mathlib.Core.Logic.{⊎-elim}
 use native.Mathlib.Omega.{arith}
 use Rattle.score.proofs.HighestOne.{position}
-use Rattle.score.proofs.Turns.{Turns, starts, turn-one, turn-zero, square-fits, ends}
+use Rattle.score.proofs.Turns.{Squared, starts, starts-squared, turn-one, turn-zero, squared-below, square-fits, ends}
 use Rattle.score.proofs.log_scaled.Statement.{statement}
 use Rattle.score.proofs.log_scaled.Tie as tie
 
 abbrev Inv-loop : tie.InvT-loop
-Inv-loop n zeros m₀ bits₀ left₀ m bits left = Turns n m bits left
+Inv-loop n zeros m p₀ bits₀ left₀ p bits left = Squared n p bits left
 
 abbrev μ-loop : tie.MeasureT-loop
-μ-loop n zeros m₀ bits₀ left₀ m bits left = left
+μ-loop n zeros m p₀ bits₀ left₀ p bits left = left
 
 cast-m : tie.Need-cast-m Inv-loop μ-loop
 cast-m c = omega (arith, position (c .args .n) (c .pre) (c .fits .n .fits))
@@ -20,11 +20,17 @@ cast-m c = omega (arith, position (c .args .n) (c .pre) (c .fits .n .fits))
 shl-m : tie.Need-shl-m Inv-loop μ-loop
 shl-m c = omega (arith, position (c .args .n) (c .pre) (c .fits .n .fits))
 
-loop-holds : tie.Need-loop-holds Inv-loop μ-loop
-loop-holds c = search starts
-
 mul-p : tie.Need-mul-p Inv-loop μ-loop
-mul-p c = search square-fits
+mul-p c = square-fits _ (starts (c .args .n) (c .pre) (c .fits .n .fits) .normal .high)
+
+loop-holds : tie.Need-loop-holds Inv-loop μ-loop
+loop-holds c = search starts-squared
+
+mul-after-one : tie.Need-mul-after-one Inv-loop μ-loop
+mul-after-one c = square-fits _ (omega (arith, squared-below _ _ _ _ (c .before .loop .inv)))
+
+mul-after-zero : tie.Need-mul-after-zero Inv-loop μ-loop
+mul-after-zero c = square-fits _ (omega arith)
 
 mul-bits : tie.Need-mul-bits Inv-loop μ-loop
 mul-bits c = omega arith
@@ -67,8 +73,10 @@ log-scaled-spec =
     μ-loop
     cast-m
     shl-m
-    loop-holds
     mul-p
+    loop-holds
+    mul-after-one
+    mul-after-zero
     mul-bits
     add-bits
     mul-bits-2
