@@ -81,7 +81,7 @@ struct Areas {
 
 impl Areas {
     fn new(bytes: usize) -> Self {
-        Areas { work: Work::new(bytes, 4 * bytes), length: bytes + 1, tokens: vec![0; 4 * (2 * bytes + 16)] }
+        Areas { work: Work::new(bytes, 4 * bytes), length: bytes + 1, tokens: vec![0; 4 * (3 * bytes + 16)] }
     }
 
     fn cut(&mut self, book: &Book, sentence: &str) -> usize {
@@ -90,10 +90,47 @@ impl Areas {
         cut.count
     }
 
+    fn cut_for_search(&mut self, book: &Book, sentence: &str) -> usize {
+        let cut = book.cut_for_search(sentence.as_bytes(), &mut self.work, self.length, &mut self.tokens);
+        assert_eq!(cut.number, 0);
+        cut.count
+    }
+
     fn cut_all(&mut self, book: &Book, sentence: &str) -> usize {
         let cut = book.cut_all(sentence.as_bytes(), &mut self.work, self.length, &mut self.tokens);
         assert_eq!(cut.number, 0);
         cut.count
+    }
+}
+
+/// The same sentences in both sides' books, so many times a run, which is so much.
+struct Sentences<'a> {
+    rust: &'a Jieba,
+    book: &'a Book,
+    areas: Areas,
+    sentences: &'a [&'a str],
+    runs: usize,
+    times: usize,
+    amount: f64,
+    unit: &'a str,
+}
+
+impl Sentences<'_> {
+    /// One cut measured: the tokens of a sentence by each side.
+    fn cut(&mut self, name: &str, rust: impl Fn(&Jieba, &str) -> usize, library: impl Fn(&mut Areas, &Book, &str) -> usize) {
+        let Sentences { rust: jieba, book, areas, sentences, times, .. } = self;
+        measure(
+            self.runs,
+            || (0..*times).map(|_| sentences.iter().map(|sentence| rust(jieba, sentence)).sum::<usize>()).sum(),
+            || (0..*times).map(|_| sentences.iter().map(|sentence| library(areas, book, sentence)).sum::<usize>()).sum(),
+        )
+        .print(name, self.amount, self.unit);
+    }
+
+    fn cuts(&mut self) {
+        self.cut("cut", |rust, sentence| rust.cut(sentence, false).len(), Areas::cut);
+        self.cut("cut_all", |rust, sentence| rust.cut_all(sentence).len(), Areas::cut_all);
+        self.cut("cut_for_search", |rust, sentence| rust.cut_for_search(sentence, false).len(), Areas::cut_for_search);
     }
 }
 
@@ -138,20 +175,18 @@ fn main() {
         let text = read(path);
         let lines: Vec<&str> = text.lines().collect();
         let longest = lines.iter().map(|line| line.len()).max().unwrap_or(0);
-        let mut areas = Areas::new(longest);
         println!("text {}: {} lines, {} bytes", path.rsplit('/').next().unwrap(), lines.len(), text.len());
-        measure(
-            RUNS,
-            || lines.iter().map(|line| rust.cut(line, false).len()).sum(),
-            || lines.iter().map(|line| areas.cut(&book, line)).sum(),
-        )
-        .print("cut", megabytes(text.len()), "MB/s");
-        measure(
-            RUNS,
-            || lines.iter().map(|line| rust.cut_all(line).len()).sum(),
-            || lines.iter().map(|line| areas.cut_all(&book, line)).sum(),
-        )
-        .print("cut_all", megabytes(text.len()), "MB/s");
+        Sentences {
+            rust: &rust,
+            book: &book,
+            areas: Areas::new(longest),
+            sentences: &lines,
+            runs: RUNS,
+            times: 1,
+            amount: megabytes(text.len()),
+            unit: "MB/s",
+        }
+        .cuts();
     }
 
     // One sentence of growing length, from the first text: the speed stays the same if the cost grows linearly.
@@ -165,21 +200,18 @@ fn main() {
         sentence.truncate(end);
         let times = (4_000_000 / bytes).max(1);
         let runs = if bytes > 1 << 20 { 5 } else { RUNS };
-        let mut areas = Areas::new(bytes);
         println!("one sentence of {} bytes, {times} times a run, {runs} runs", sentence.len());
-        let amount = megabytes(sentence.len() * times);
-        measure(
+        Sentences {
+            rust: &rust,
+            book: &book,
+            areas: Areas::new(bytes),
+            sentences: &[&sentence],
             runs,
-            || (0..times).map(|_| rust.cut(&sentence, false).len()).sum(),
-            || (0..times).map(|_| areas.cut(&book, &sentence)).sum(),
-        )
-        .print("cut", amount, "MB/s");
-        measure(
-            runs,
-            || (0..times).map(|_| rust.cut_all(&sentence).len()).sum(),
-            || (0..times).map(|_| areas.cut_all(&book, &sentence)).sum(),
-        )
-        .print("cut_all", amount, "MB/s");
+            times,
+            amount: megabytes(sentence.len() * times),
+            unit: "MB/s",
+        }
+        .cuts();
     }
 
     // Document 01's book A and short commands, in the areas that `cutlines` lends.
@@ -189,20 +221,17 @@ fn main() {
     rust.load_dict(&mut entries.as_bytes()).unwrap();
     let mut book = Book::prepare(256, 1024, 256);
     assert_eq!(book.load(entries.as_bytes()).number, 0);
-    let mut areas = Areas::new(1024);
     let times = 100_000;
-    let amount = (times * commands.len()) as f64 / 1e6;
     println!("book A, {} short commands, {times} times a run", commands.len());
-    measure(
-        RUNS,
-        || (0..times).map(|_| commands.iter().map(|c| rust.cut(c, false).len()).sum::<usize>()).sum(),
-        || (0..times).map(|_| commands.iter().map(|c| areas.cut(&book, c)).sum::<usize>()).sum(),
-    )
-    .print("cut", amount, "million/s");
-    measure(
-        RUNS,
-        || (0..times).map(|_| commands.iter().map(|c| rust.cut_all(c).len()).sum::<usize>()).sum(),
-        || (0..times).map(|_| commands.iter().map(|c| areas.cut_all(&book, c)).sum::<usize>()).sum(),
-    )
-    .print("cut_all", amount, "million/s");
+    Sentences {
+        rust: &rust,
+        book: &book,
+        areas: Areas::new(1024),
+        sentences: &commands,
+        runs: RUNS,
+        times,
+        amount: (times * commands.len()) as f64 / 1e6,
+        unit: "million/s",
+    }
+    .cuts();
 }

@@ -24,7 +24,8 @@
  * What is returned
  *
  *    0  done
- *    1  a part of the book outside its sizes, or a token area that is not a whole number of tokens; nothing is changed
+ *    1  a part of the book outside its sizes, a token area that is not a whole number of tokens, or no such mode; nothing is
+ *       changed
  *    2  a text over 16,777,215 bytes; nothing is changed
  *    3  malformed UTF-8 (RFC 3629); nothing is changed, but a load keeps its earlier lines
  *    4  a frequency malformed or over 4,294,967,295; as 3
@@ -49,6 +50,9 @@ extern "C" {
 #define TONGSVALE_HEAD_LENGTH 4
 /* The numbers of a token: start and end in characters, then start and end in bytes. */
 #define TONGSVALE_TOKEN_WIDTH 4
+/* The modes of tongsvale_tokenize. */
+#define TONGSVALE_DEFAULT 0
+#define TONGSVALE_SEARCH 1
 
 struct tongsvale_loaded {
     uint32_t number;
@@ -132,7 +136,7 @@ struct tongsvale_found tongsvale_lookup(
  *                  its shortest slice
  *   edge area      edge_ends, edge_records: a place for each held word that starts anywhere in a block, for the block that
  *                  has the most; it counts as its shortest slice
- *   token area     tokens: TONGSVALE_TOKEN_WIDTH numbers a token; as many tokens as characters always suffice
+ *   token area     tokens: TONGSVALE_TOKEN_WIDTH numbers a token; as many tokens as the sentence has characters always suffice
  *
  * The book is only read. Afterwards the first count tokens of the token area are written, later places hold what they held.
  * What the work and edge areas hold at first plays no part, and they are left with no meaning; on 1, 2, 3, 9 and where the
@@ -158,8 +162,59 @@ struct tongsvale_cut tongsvale_cut(
     uint32_t *edge_records, size_t edge_records_length,
     uint32_t *tokens, size_t tokens_length);
 
+/* Cuts a sentence into words as tongsvale_cut, and writes before each word what search finds in it: if it has . _ or -, its
+ * parts between them of at least 2 bytes with an ASCII letter; if it is over 2 characters, the held words of 2 characters in
+ * it; if over 3, those of 3. Areas and numbers are those of tongsvale_cut, but for the token area: 7 thirds of the sentence's
+ * characters, rounded down, always suffice. 11 may come in the middle of a word's parts and words. */
+struct tongsvale_cut tongsvale_cut_for_search(
+    const uint64_t *head, size_t head_length,
+    const uint32_t *root_children, size_t root_children_length,
+    const int32_t *root_words, size_t root_words_length,
+    const uint64_t *keys, size_t keys_length,
+    const uint32_t *children, size_t children_length,
+    const int32_t *words, size_t words_length,
+    const uint32_t *frequencies, size_t frequencies_length,
+    const double *logarithms, size_t logarithms_length,
+    const uint8_t *sentence, size_t sentence_length,
+    uint32_t *chars, size_t chars_length,
+    uint32_t *offsets, size_t offsets_length,
+    size_t *starts, size_t starts_length,
+    double *scores, size_t scores_length,
+    uint32_t *ends, size_t ends_length,
+    uint32_t *records, size_t records_length,
+    uint32_t *edge_ends, size_t edge_ends_length,
+    uint32_t *edge_records, size_t edge_records_length,
+    uint32_t *tokens, size_t tokens_length);
+
+/* Cuts a sentence into words by a mode: TONGSVALE_DEFAULT is tongsvale_cut, TONGSVALE_SEARCH is tongsvale_cut_for_search, and
+ * any other number is answered with 1, count 0 and nothing changed. */
+struct tongsvale_cut tongsvale_tokenize(
+    const uint64_t *head, size_t head_length,
+    const uint32_t *root_children, size_t root_children_length,
+    const int32_t *root_words, size_t root_words_length,
+    const uint64_t *keys, size_t keys_length,
+    const uint32_t *children, size_t children_length,
+    const int32_t *words, size_t words_length,
+    const uint32_t *frequencies, size_t frequencies_length,
+    const double *logarithms, size_t logarithms_length,
+    const uint8_t *sentence, size_t sentence_length,
+    uint32_t mode,
+    uint32_t *chars, size_t chars_length,
+    uint32_t *offsets, size_t offsets_length,
+    size_t *starts, size_t starts_length,
+    double *scores, size_t scores_length,
+    uint32_t *ends, size_t ends_length,
+    uint32_t *records, size_t records_length,
+    uint32_t *edge_ends, size_t edge_ends_length,
+    uint32_t *edge_records, size_t edge_records_length,
+    uint32_t *tokens, size_t tokens_length);
+
 /* Cuts a sentence into all the words that it holds, in the order of their starts and then of their ends. As tongsvale_cut,
- * with a work area of two slices and no edge area, so without 10; tokens are written as they are met. */
+ * with a work area of two slices and no edge area, so without 10; tokens are written as they are met.
+ *
+ * The token area needs a place for each held word at each place of the sentence's Han blocks where it starts, and for each
+ * token between these blocks, which are at most as many as the characters there. Held words overlap, so this may be more than
+ * the sentence's characters: with 打, 打开, 开, 客厅, 客厅灯, 厅灯 and 灯 held, the 5 characters of 打开客厅灯 need 7 places. */
 struct tongsvale_cut tongsvale_cut_all(
     const uint64_t *head, size_t head_length,
     const uint32_t *root_children, size_t root_children_length,

@@ -216,8 +216,8 @@ struct Comparison {
     calls: u64,
     lookups: u64,
     cuts: u64,
+    cuts_for_search: u64,
     cuts_all: u64,
-    // A place for cut_for_search: its count, and a third comparison in `sentence`.
     tokens: u64,
     differences: u64,
     work: Option<Work>,
@@ -317,6 +317,7 @@ impl Comparison {
     fn sentence(&mut self, plan: &Plan, rust: &with_l::Rust, books: &[Sized], sentence: &str) {
         let chars = sentence.chars().count();
         let cut = rust.cut(sentence);
+        let searched = rust.cut_for_search(sentence);
         let cut_all = rust.cut_all(sentence);
         let mut work = self.work.take().unwrap_or_else(|| Work::new(1024, 16_384));
         work.reserve(chars, 16 * chars.min(100_000) + 3 * chars);
@@ -325,12 +326,27 @@ impl Comparison {
             let spare = (self.sentences as usize + i) % 2 * 3;
             let length = chars + 1 + if spare > 0 && chars + 4 <= 1024 { 3 } else { 0 };
 
+            // `cut` and `cut_for_search` by their own calls and by the mode, by turns.
+            let by_mode = (self.sentences as usize / 2 + i) % 2 == 1;
+
             let mut lent = std::mem::take(&mut self.lent);
             lent.clear();
             lent.resize(cut.len() + 4 * spare, UNTOUCHED);
-            let answer = sized.book.cut(sentence.as_bytes(), &mut work, length, &mut lent);
+            let answer = match by_mode {
+                false => sized.book.cut(sentence.as_bytes(), &mut work, length, &mut lent),
+                true => sized.book.tokenize(sentence.as_bytes(), 0, &mut work, length, &mut lent),
+            };
             self.cuts += 1;
             self.check(plan, sized, "cut", sentence, &cut, &answer, &lent);
+
+            lent.clear();
+            lent.resize(searched.len() + 4 * spare, UNTOUCHED);
+            let answer = match by_mode {
+                false => sized.book.cut_for_search(sentence.as_bytes(), &mut work, length, &mut lent),
+                true => sized.book.tokenize(sentence.as_bytes(), 1, &mut work, length, &mut lent),
+            };
+            self.cuts_for_search += 1;
+            self.check(plan, sized, "cut_for_search", sentence, &searched, &answer, &lent);
 
             lent.clear();
             lent.resize(cut_all.len() + 4 * spare, UNTOUCHED);
@@ -339,7 +355,8 @@ impl Comparison {
             self.check(plan, sized, "cut_all", sentence, &cut_all, &answer, &lent);
             self.lent = lent;
         }
-        self.tokens += ((cut.len() + cut_all.len()) / 4 * books.len()) as u64;
+        assert!(searched.len() / 4 <= chars * 7 / 3, "search has more tokens than 7 thirds of the characters: {sentence:?}");
+        self.tokens += ((cut.len() + searched.len() + cut_all.len()) / 4 * books.len()) as u64;
         self.sentences += 1;
         self.work = Some(work);
     }
@@ -386,14 +403,14 @@ impl Comparison {
 
     fn report(&self, part: &str, since: Instant) {
         println!(
-            "{part}: {} books in {} sizes, {} sentences; {} cut, {} cut_all, {} lookup, {} load and add answers; {} tokens; {} differences; {:.1} s",
-            self.books, self.sized_books, self.sentences, self.cuts, self.cuts_all, self.lookups, self.calls, self.tokens,
-            self.differences, since.elapsed().as_secs_f64(),
+            "{part}: {} books in {} sizes, {} sentences; {} cut, {} cut_for_search, {} cut_all, {} lookup, {} load and add answers; {} tokens; {} differences; {:.1} s",
+            self.books, self.sized_books, self.sentences, self.cuts, self.cuts_for_search, self.cuts_all, self.lookups, self.calls,
+            self.tokens, self.differences, since.elapsed().as_secs_f64(),
         );
     }
 
     fn answers(&self) -> u64 {
-        self.cuts + self.cuts_all + self.lookups + self.calls
+        self.cuts + self.cuts_for_search + self.cuts_all + self.lookups + self.calls
     }
 }
 
@@ -724,9 +741,6 @@ fn repeated(text: &str, length: usize) -> String {
 
 // ---- the sample
 
-/// Whether the sample has frames of `cut_for_search`, 04: not before the library has the call.
-const WITH_SEARCH: bool = false;
-
 fn hexadecimal(bytes: &[u8]) -> String {
     bytes.iter().map(|byte| format!("{byte:02x}")).collect()
 }
@@ -780,16 +794,15 @@ fn sample_books(random: &mut Random) -> Vec<Plan> {
 }
 
 fn sample_heading() -> String {
-    let search = if WITH_SEARCH { ", 04 cut_for_search" } else { "" };
     format!(
         "\
 # Made by `oracle/compare FOLDER --sample` (seed {SEED}), and so is `stdout`; not edited by hand. `stdout` has a line for each
 # frame. A cut's is the answer of the Rust (jieba-rs, commit bac49e65b8, with document 01's logarithm L in place of ln, HMM
 # off). A load's says that the Rust accepted the text, and how many lines the text has. Nothing in either comes from the code
 # that is replayed.
-# `book` begins an empty book. Every other line is a frame of document 01's program `cutlines` (01 load, 02 cut, 03 cut_all{search},
-# then the text in hexadecimal). Every book and sentence is within the areas that `cutlines` lends. A comment before the
-# frames of a sentence shows the cut.
+# `book` begins an empty book. Every other line is a frame of document 01's program `cutlines` (01 load, 02 cut, 03 cut_all,
+# 04 cut_for_search, then the text in hexadecimal). Every book and sentence is within the areas that `cutlines` lends. A
+# comment before the frames of a sentence shows the cut.
 "
     )
 }
@@ -819,9 +832,7 @@ fn sample() -> Sample {
             sample.line(&format!("# {shown}"));
             sample.cut(2, &sentence, &cut);
             sample.cut(3, &sentence, &rust.cut_all(&sentence));
-            if WITH_SEARCH {
-                sample.cut(4, &sentence, &rust.cut_for_search(&sentence));
-            }
+            sample.cut(4, &sentence, &rust.cut_for_search(&sentence));
         }
     }
     sample

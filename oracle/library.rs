@@ -98,6 +98,49 @@ unsafe extern "C" {
         tokens: *mut u32, tokens_len: usize,
     ) -> Cut;
 
+    fn tongsvale_cut_for_search(
+        head: *const u64, head_len: usize,
+        root_children: *const u32, root_children_len: usize,
+        root_words: *const i32, root_words_len: usize,
+        keys: *const u64, keys_len: usize,
+        children: *const u32, children_len: usize,
+        words: *const i32, words_len: usize,
+        frequencies: *const u32, frequencies_len: usize,
+        logarithms: *const f64, logarithms_len: usize,
+        sentence: *const u8, sentence_len: usize,
+        chars: *mut u32, chars_len: usize,
+        offsets: *mut u32, offsets_len: usize,
+        starts: *mut usize, starts_len: usize,
+        scores: *mut f64, scores_len: usize,
+        ends: *mut u32, ends_len: usize,
+        records: *mut u32, records_len: usize,
+        edge_ends: *mut u32, edge_ends_len: usize,
+        edge_records: *mut u32, edge_records_len: usize,
+        tokens: *mut u32, tokens_len: usize,
+    ) -> Cut;
+
+    fn tongsvale_tokenize(
+        head: *const u64, head_len: usize,
+        root_children: *const u32, root_children_len: usize,
+        root_words: *const i32, root_words_len: usize,
+        keys: *const u64, keys_len: usize,
+        children: *const u32, children_len: usize,
+        words: *const i32, words_len: usize,
+        frequencies: *const u32, frequencies_len: usize,
+        logarithms: *const f64, logarithms_len: usize,
+        sentence: *const u8, sentence_len: usize,
+        mode: u32,
+        chars: *mut u32, chars_len: usize,
+        offsets: *mut u32, offsets_len: usize,
+        starts: *mut usize, starts_len: usize,
+        scores: *mut f64, scores_len: usize,
+        ends: *mut u32, ends_len: usize,
+        records: *mut u32, records_len: usize,
+        edge_ends: *mut u32, edge_ends_len: usize,
+        edge_records: *mut u32, edge_records_len: usize,
+        tokens: *mut u32, tokens_len: usize,
+    ) -> Cut;
+
     fn tongsvale_cut_all(
         head: *const u64, head_len: usize,
         root_children: *const u32, root_children_len: usize,
@@ -160,6 +203,37 @@ impl Work {
             *self = Work::new(chars.max(self.chars.len()), edges.max(self.edge_ends.len()));
         }
     }
+}
+
+/// A call with the first so many places of the work area, and a mode where there is one.
+macro_rules! with_all_areas {
+    ($call:ident, $book:expr, $sentence:expr, $work:expr, $length:expr, $tokens:expr $(, $mode:expr)?) => {{
+        let Work { chars, offsets, starts, scores, ends, records, edge_ends, edge_records } = $work;
+        assert!($length <= chars.len());
+        unsafe {
+            $call(
+                $book.head.as_ptr(), $book.head.len(),
+                $book.root_children.as_ptr(), $book.root_children.len(),
+                $book.root_words.as_ptr(), $book.root_words.len(),
+                $book.keys.as_ptr(), $book.keys.len(),
+                $book.children.as_ptr(), $book.children.len(),
+                $book.words.as_ptr(), $book.words.len(),
+                $book.frequencies.as_ptr(), $book.frequencies.len(),
+                $book.logarithms.as_ptr(), $book.logarithms.len(),
+                $sentence.as_ptr(), $sentence.len(),
+                $($mode,)?
+                chars.as_mut_ptr(), $length,
+                offsets.as_mut_ptr(), $length,
+                starts.as_mut_ptr(), $length,
+                scores.as_mut_ptr(), $length,
+                ends.as_mut_ptr(), $length,
+                records.as_mut_ptr(), $length,
+                edge_ends.as_mut_ptr(), edge_ends.len(),
+                edge_records.as_mut_ptr(), edge_records.len(),
+                $tokens.as_mut_ptr(), $tokens.len(),
+            )
+        }
+    }};
 }
 
 impl Book {
@@ -247,30 +321,17 @@ impl Book {
 
     /// Cuts with the first `length` places of the work area.
     pub fn cut(&self, sentence: &[u8], work: &mut Work, length: usize, tokens: &mut [u32]) -> Cut {
-        let Work { chars, offsets, starts, scores, ends, records, edge_ends, edge_records } = work;
-        assert!(length <= chars.len());
-        unsafe {
-            tongsvale_cut(
-                self.head.as_ptr(), self.head.len(),
-                self.root_children.as_ptr(), self.root_children.len(),
-                self.root_words.as_ptr(), self.root_words.len(),
-                self.keys.as_ptr(), self.keys.len(),
-                self.children.as_ptr(), self.children.len(),
-                self.words.as_ptr(), self.words.len(),
-                self.frequencies.as_ptr(), self.frequencies.len(),
-                self.logarithms.as_ptr(), self.logarithms.len(),
-                sentence.as_ptr(), sentence.len(),
-                chars.as_mut_ptr(), length,
-                offsets.as_mut_ptr(), length,
-                starts.as_mut_ptr(), length,
-                scores.as_mut_ptr(), length,
-                ends.as_mut_ptr(), length,
-                records.as_mut_ptr(), length,
-                edge_ends.as_mut_ptr(), edge_ends.len(),
-                edge_records.as_mut_ptr(), edge_records.len(),
-                tokens.as_mut_ptr(), tokens.len(),
-            )
-        }
+        with_all_areas!(tongsvale_cut, self, sentence, work, length, tokens)
+    }
+
+    /// Cuts for search.
+    pub fn cut_for_search(&self, sentence: &[u8], work: &mut Work, length: usize, tokens: &mut [u32]) -> Cut {
+        with_all_areas!(tongsvale_cut_for_search, self, sentence, work, length, tokens)
+    }
+
+    /// Cuts by a mode: 0 as `cut`, 1 as `cut_for_search`.
+    pub fn tokenize(&self, sentence: &[u8], mode: u32, work: &mut Work, length: usize, tokens: &mut [u32]) -> Cut {
+        with_all_areas!(tongsvale_tokenize, self, sentence, work, length, tokens, mode)
     }
 
     /// Cuts into all words, with the first `length` places of the work area.

@@ -1,6 +1,6 @@
 """What the program `cut_checks` must print, computed without it.
 
-Document 01's `cut` and `cut_all` in plain lists: the order of the refusals, the blocks by its ranges, the words that a position's walk
+Document 01's `cut`, `cut_all` and `cut_for_search` in plain lists: the order of the refusals, the blocks by its ranges, the words that a position's walk
 meets, the route in Python's doubles, the tokens. The walk goes by the steps of the areas, which tests/expected_books.py has; where the
 book is built by calls alone, the cut is done once more with a plain dictionary of its words, and both must agree. Nothing here comes
 from the Rattle code but the commands, which say what is cut in which areas, and the form of the lines that are printed.
@@ -162,6 +162,29 @@ def tokens_of_cut(walks, block, in_class, room):
     return along_route(block, route_of(edges_of(walks, block, room), walks.log_total))
 
 
+def parts_of(token):
+    """The pieces before, between and after . _ and -, as (start, end) within the token; none where there is no such sign."""
+    signs = [i for i, c in enumerate(token) if c in "._-"]
+    for start, end in zip([0] + [i + 1 for i in signs], signs + [len(token)]) if signs else []:
+        part = token[start:end]
+        if len(part.encode()) >= 2 and any(c in LETTERS_AND_DIGITS and not c.isdigit() for c in part):
+            yield start, end
+
+
+def tokens_of_search(walks, block, in_class, room):
+    """Each token of `cut`, with what search finds in it before it."""
+    if not in_class:
+        yield from singly(block)
+        return
+    edges = edges_of(walks, block, room)
+    for x, y in along_route(block, route_of(edges, walks.log_total)):
+        yield from ((x + start, x + end) for start, end in parts_of(block[x:y]))
+        for size in (2, 3):
+            if y - x > size:
+                yield from ((at, at + size) for at in range(x, y - size + 1) if at + size in [end for end, _ in edges[at]])
+        yield x, y
+
+
 def tokens_of_cut_all(walks, block, in_class):
     if not in_class:
         return in_runs(block)
@@ -194,14 +217,18 @@ def write(area, count, sentence, start, end):
     area[count * 4 : count * 4 + 4] = [start, end, before, before + within]
 
 
-def cut(walks, sentence, is_all, room, area):
+def tokens_of(kind, walks, block, in_class, room):
+    if kind == ALL:
+        return tokens_of_cut_all(walks, block, in_class)
+    return (tokens_of_search if kind == SEARCH else tokens_of_cut)(walks, block, in_class, room)
+
+
+def cut(walks, sentence, kind, room, area):
     """The number, and how many tokens stand in the area."""
     count = 0
     try:
-        for start, end, in_class in blocks(sentence, is_han if is_all else in_class_of_cut):
-            block = sentence[start:end]
-            tokens = tokens_of_cut_all(walks, block, in_class) if is_all else tokens_of_cut(walks, block, in_class, room)
-            for x, y in tokens:
+        for start, end, in_class in blocks(sentence, is_han if kind == ALL else in_class_of_cut):
+            for x, y in tokens_of(kind, walks, sentence[start:end], in_class, room):
                 write(area, count, sentence, start + x, start + y)
                 count += 1
     except Refused as refused:
@@ -212,31 +239,34 @@ def cut(walks, sentence, is_all, room, area):
 # ---- commands
 
 
+CUT, SEARCH, ALL = "cut", "search", "all"
+
+
 def arguments(command):
-    """Whether all words are asked for, the lengths of the work, edge and token slices, and the sentence."""
+    """Which cut it is, the lengths of the work, edge and token slices, and the sentence."""
     name, _, rest = command.partition(b" ")
-    fields = rest.split(b" ", {b"cut": 3, b"slices": 9, b"all": 3}[name])
+    fields = rest.split(b" ", {b"cut": 3, b"find": 3, b"slices": 9, b"all": 3}[name])
     numbers, sentence = [int(n) for n in fields[:-1]], fields[-1]
-    if name == b"cut":
-        return False, numbers[:1] * 6, numbers[1:2] * 2, numbers[2], sentence
+    if name in (b"cut", b"find"):
+        return CUT if name == b"cut" else SEARCH, numbers[:1] * 6, numbers[1:2] * 2, numbers[2], sentence
     if name == b"slices":
-        return False, numbers[:6], numbers[6:8], numbers[8], sentence
-    return True, numbers[:2], [0], numbers[2], sentence
+        return CUT, numbers[:6], numbers[6:8], numbers[8], sentence
+    return ALL, numbers[:2], [0], numbers[2], sentence
 
 
 def answer(book, words, command):
-    is_all, work, edges, tokens, sentence = arguments(command)
+    kind, work, edges, tokens, sentence = arguments(command)
     area = [7] * tokens
     kept = ""
     try:
         characters = test(book, min(work), area, sentence)
-        number, count = cut(Areas(book), characters, is_all, min(edges), area)
+        number, count = cut(Areas(book), characters, kind, min(edges), area)
         if words is not None:
             again = [7] * tokens
-            assert (number, count) == cut(words, characters, is_all, min(edges), again) and area == again, command
+            assert (number, count) == cut(words, characters, kind, min(edges), again) and area == again, command
     except Refused as refused:
         number, count = refused.number, 0
-        kept = "; work unchanged" if is_all else "; work and edges unchanged"
+        kept = "; work unchanged" if kind == ALL else "; work and edges unchanged"
     places = "".join((" | " if i % 4 == 0 else " ") + str(x) for i, x in enumerate(area))
     return f"{number}, tokens {count}{places}{kept}"
 
@@ -287,6 +317,11 @@ def play(heading, sizes, dictionary, stores, commands):
 def cut_of(sentence, edges, places):
     """In a work area that is just long enough, with so many edges and so many tokens."""
     return f"cut {len(sentence) + 1} {edges} {places * 4} {sentence}"
+
+
+def find_of(sentence, edges, places):
+    """The same for search."""
+    return f"find {len(sentence) + 1} {edges} {places * 4} {sentence}"
 
 
 def all_of(sentence, places):
@@ -522,8 +557,54 @@ UNBUILT = [
     ]),
 ]  # fmt: skip
 
+# Parts at both ends, none between two signs, of one byte, of digits, of Han, of both, and of letters.
+PARTED = ["-ab", "ab-", "ab--cd", "._-", "a-b", "12-34", "甲乙-丙", "甲a-b乙", "é-ab", "ab.12_cd-3e", "ab-甲乙丙"]
+# Held whole, so that each is one token; words of two and three characters stand in some of them.
+PARTED_WORDS = "\n".join(f"{word} 99" for word in PARTED if word != "é-ab") + "\nb- 1\n-12 1\n甲乙 1\n乙丙 1\n甲乙丙 1\n.12 1\n2_ 1\ncd- 1"
+SIZED = "甲乙丙丁 90\n甲乙丙 80\n甲乙 70\n乙丙丁 9\n乙丙 8\n丙丁 7\n丁 6"
+FOUND = "ab-cd_甲乙丙"
+FOUND_WORDS = f"{FOUND} 99\n甲乙 1\n乙丙 1\n甲乙丙 1\ncd_ 1\n丁 5"
+
+SEARCHED = [
+    ("Search in book A", alike(65536, 16, 16), BOOK_A, [], [
+        find_of("打开客厅灯", 7, 8), find_of("打开灯", 5, 6), find_of("打开客厅灯，再开灯!开a1灯-打 开", 7, 20),
+    ]),
+    ("Search of words with connectors", alike(128, 16, 4), "WES 1\nWES-5.4.5 1", [], [
+        find_of("WES-5.4.5", 2, 4), find_of("WES-5.4", 1, 6), find_of("WES.WES", 2, 4),
+    ]),
+    ("Search in the empty book", alike(65536, 16, 1), "", [], [
+        find_of(sentence, 0, len(sentence) + 1) for sentence in ["", "ab-1\r\n!", "ab", "\r\n\r", "甲乙丙", "a.b"]
+    ]),
+    ("Parts of a token", alike(65536, 64, 32), PARTED_WORDS, [], [find_of(sentence, 16, 12) for sentence in PARTED]),
+    ("Tokens of 2, 3 and 4 characters", alike(65536, 16, 8), SIZED, [], [
+        *[find_of(sentence, 9, 8) for sentence in ["甲乙", "甲乙丙", "甲乙丙丁", "丁", "甲乙丁", "戊甲乙丙丁甲乙"]],
+    ]),
+    ("Joined letters with held words inside", alike(128, 16, 8), "a 90\nb 90\nc 90\nd 90\nab 1\nbc 1\nbcd 1\nd1 1", [], [
+        find_of(sentence, 16, 8) for sentence in ["abcd", "abcd1", "ab", "abc", "xabcx", "ab-bcd"]
+    ]),
+    ("9 and 10 in search", alike(65536, 16, 8), SIZED, [], [
+        *[f"find 5 {n} 32 甲乙丙丁" for n in range(8)], "find 4 7 32 甲乙丙丁", "find 0 0 0 ", "find 1 0 0 ", "find 7 6 24 丁!甲乙丙丁",
+    ]),
+    ("1 and 3 in search, and the head's 8", alike(65536, 16, 8), SIZED, [], [
+        *[f"find 5 9 {n} 甲乙丙丁" for n in (1, 2, 3, 4, 5, 30)], *[b"find 9 9 8 " + text for text in MALFORMED], b"find 0 0 3 \xff",
+        "head 9 0 2 5", "find 5 9 32 甲乙丙丁", b"find 9 9 8 a\xff", "find 0 0 0 ", "find 1 0 0 ", "find 4 9 32 甲乙丙丁",
+    ]),
+    ("11 among the parts, the words and the tokens", alike(65536, 64, 8), FOUND_WORDS, [], [
+        *[find_of(FOUND + "!丁", 12, n) for n in range(10)],
+    ]),
+    ("Search where a probe has no end", alike(65536, 16, 4), "甲乙 5\n丙 5", ["keys 0 16 5"], [
+        find_of(sentence, 4, 4) for sentence in ["丙!甲乙", "!甲乙", "丙", "甲!甲", "!?"]
+    ]),
+    ("Search with a bad word number at the second step", alike(65536, 16, 8), NUMBERED, ["words 11 12 9"], [
+        *[find_of(sentence, 9, 9) for sentence in ["丁丙!甲乙丙", "甲", "!甲丁"]], find_of("!甲乙", 0, 0),
+    ]),
+    ("Search with a missing bit", alike(1, 16, 4), FIRST_IN_SLOT, ["keys 13 14 30003"], [
+        find_of(sentence, 4, 4) for sentence in ["甲乙", "!甲乙甲"]
+    ]),
+]  # fmt: skip
+
 if __name__ == "__main__":
     print(TITLE)
-    for case in EXAMPLES + BLOCKS + LETTERS + REFUSED + FULL + DAMAGED + UNBUILT:
+    for case in EXAMPLES + BLOCKS + LETTERS + REFUSED + FULL + DAMAGED + UNBUILT + SEARCHED:
         print()
         print("\n".join(play(*case)))

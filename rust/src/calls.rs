@@ -1,4 +1,4 @@
-//! The library's six calls, over areas and slices. All unsafe code of the crate is here.
+//! The library's eight calls, over areas and slices. All unsafe code of the crate is here.
 //!
 //! What the library asks of its caller is what Rust asks of a slice, and each call below gives it. A pointer of a `Vec` or a
 //! slice is not null, is aligned, and is valid for the length given with it. Areas that are written are fields of a struct
@@ -155,6 +155,85 @@ extern "C" {
         tokens_length: usize,
     ) -> Cut;
 
+    fn tongsvale_cut_for_search(
+        head: *const u64,
+        head_length: usize,
+        root_children: *const u32,
+        root_children_length: usize,
+        root_words: *const i32,
+        root_words_length: usize,
+        keys: *const u64,
+        keys_length: usize,
+        children: *const u32,
+        children_length: usize,
+        words: *const i32,
+        words_length: usize,
+        frequencies: *const u32,
+        frequencies_length: usize,
+        logarithms: *const f64,
+        logarithms_length: usize,
+        sentence: *const u8,
+        sentence_length: usize,
+        chars: *mut u32,
+        chars_length: usize,
+        offsets: *mut u32,
+        offsets_length: usize,
+        starts: *mut usize,
+        starts_length: usize,
+        scores: *mut f64,
+        scores_length: usize,
+        ends: *mut u32,
+        ends_length: usize,
+        records: *mut u32,
+        records_length: usize,
+        edge_ends: *mut u32,
+        edge_ends_length: usize,
+        edge_records: *mut u32,
+        edge_records_length: usize,
+        tokens: *mut u32,
+        tokens_length: usize,
+    ) -> Cut;
+
+    fn tongsvale_tokenize(
+        head: *const u64,
+        head_length: usize,
+        root_children: *const u32,
+        root_children_length: usize,
+        root_words: *const i32,
+        root_words_length: usize,
+        keys: *const u64,
+        keys_length: usize,
+        children: *const u32,
+        children_length: usize,
+        words: *const i32,
+        words_length: usize,
+        frequencies: *const u32,
+        frequencies_length: usize,
+        logarithms: *const f64,
+        logarithms_length: usize,
+        sentence: *const u8,
+        sentence_length: usize,
+        mode: u32,
+        chars: *mut u32,
+        chars_length: usize,
+        offsets: *mut u32,
+        offsets_length: usize,
+        starts: *mut usize,
+        starts_length: usize,
+        scores: *mut f64,
+        scores_length: usize,
+        ends: *mut u32,
+        ends_length: usize,
+        records: *mut u32,
+        records_length: usize,
+        edge_ends: *mut u32,
+        edge_ends_length: usize,
+        edge_records: *mut u32,
+        edge_records_length: usize,
+        tokens: *mut u32,
+        tokens_length: usize,
+    ) -> Cut;
+
     fn tongsvale_cut_all(
         head: *const u64,
         head_length: usize,
@@ -290,49 +369,67 @@ pub(crate) fn lookup(book: &Areas, word: &[u8]) -> Found {
     }
 }
 
+/// A call on a book, a sentence, all areas of a scratch, and a mode where there is one.
+macro_rules! with_all_areas {
+    ($call:ident, $book:expr, $sentence:expr, $scratch:expr $(, $mode:expr)?) => {
+        $call(
+            $book.head.as_ptr(),
+            $book.head.len(),
+            $book.root_children.as_ptr(),
+            $book.root_children.len(),
+            $book.root_words.as_ptr(),
+            $book.root_words.len(),
+            $book.keys.as_ptr(),
+            $book.keys.len(),
+            $book.children.as_ptr(),
+            $book.children.len(),
+            $book.words.as_ptr(),
+            $book.words.len(),
+            $book.frequencies.as_ptr(),
+            $book.frequencies.len(),
+            $book.logarithms.as_ptr(),
+            $book.logarithms.len(),
+            $sentence.as_ptr(),
+            $sentence.len(),
+            $($mode,)?
+            $scratch.chars.as_mut_ptr(),
+            $scratch.chars.len(),
+            $scratch.offsets.as_mut_ptr(),
+            $scratch.offsets.len(),
+            $scratch.starts.as_mut_ptr(),
+            $scratch.starts.len(),
+            $scratch.scores.as_mut_ptr(),
+            $scratch.scores.len(),
+            $scratch.ends.as_mut_ptr(),
+            $scratch.ends.len(),
+            $scratch.records.as_mut_ptr(),
+            $scratch.records.len(),
+            $scratch.edge_ends.as_mut_ptr(),
+            $scratch.edge_ends.len(),
+            $scratch.edge_records.as_mut_ptr(),
+            $scratch.edge_records.len(),
+            $scratch.tokens.as_mut_ptr(),
+            $scratch.tokens.len(),
+        )
+    };
+}
+
 /// Cuts a sentence into words.
 pub(crate) fn cut(book: &Areas, sentence: &[u8], scratch: &mut Scratch) -> Cut {
     // Sound: only the nine `Vec`s of `scratch` are written; they are borrowed by `&mut`, so book and sentence are none of them.
-    unsafe {
-        tongsvale_cut(
-            book.head.as_ptr(),
-            book.head.len(),
-            book.root_children.as_ptr(),
-            book.root_children.len(),
-            book.root_words.as_ptr(),
-            book.root_words.len(),
-            book.keys.as_ptr(),
-            book.keys.len(),
-            book.children.as_ptr(),
-            book.children.len(),
-            book.words.as_ptr(),
-            book.words.len(),
-            book.frequencies.as_ptr(),
-            book.frequencies.len(),
-            book.logarithms.as_ptr(),
-            book.logarithms.len(),
-            sentence.as_ptr(),
-            sentence.len(),
-            scratch.chars.as_mut_ptr(),
-            scratch.chars.len(),
-            scratch.offsets.as_mut_ptr(),
-            scratch.offsets.len(),
-            scratch.starts.as_mut_ptr(),
-            scratch.starts.len(),
-            scratch.scores.as_mut_ptr(),
-            scratch.scores.len(),
-            scratch.ends.as_mut_ptr(),
-            scratch.ends.len(),
-            scratch.records.as_mut_ptr(),
-            scratch.records.len(),
-            scratch.edge_ends.as_mut_ptr(),
-            scratch.edge_ends.len(),
-            scratch.edge_records.as_mut_ptr(),
-            scratch.edge_records.len(),
-            scratch.tokens.as_mut_ptr(),
-            scratch.tokens.len(),
-        )
-    }
+    unsafe { with_all_areas!(tongsvale_cut, book, sentence, scratch) }
+}
+
+/// Cuts a sentence into words, before each of them what search finds in it.
+pub(crate) fn cut_for_search(book: &Areas, sentence: &[u8], scratch: &mut Scratch) -> Cut {
+    // Sound: as `cut`; the same areas are read and written.
+    unsafe { with_all_areas!(tongsvale_cut_for_search, book, sentence, scratch) }
+}
+
+/// Cuts a sentence into words by a mode.
+pub(crate) fn tokenize(book: &Areas, sentence: &[u8], mode: u32, scratch: &mut Scratch) -> Cut {
+    // Sound: as `cut`; the same areas are read and written, and every number is answered as a mode.
+    unsafe { with_all_areas!(tongsvale_tokenize, book, sentence, scratch, mode) }
 }
 
 /// Cuts a sentence into all the words that it holds.
@@ -365,5 +462,31 @@ pub(crate) fn cut_all(book: &Areas, sentence: &[u8], scratch: &mut Scratch) -> C
             scratch.tokens.as_mut_ptr(),
             scratch.tokens.len(),
         )
+    }
+}
+
+#[cfg(test)]
+mod tests {
+    use super::*;
+
+    /// The library takes every number as a mode; the crate gives it 0 and 1 alone.
+    #[test]
+    fn number_1_for_other_modes() {
+        let mut book = Areas::with_sizes(1, 16, 1);
+        assert_eq!(prepare(&mut book), 0);
+        for mode in [2, 3, 255, 256, 1 << 31, u32::MAX] {
+            let mut scratch = Scratch::with_sizes(4, 4, 4);
+            let before = scratch.clone();
+            let cut = tokenize(&book, b"ab", mode, &mut scratch);
+            assert_eq!((cut.number, cut.count), (1, 0), "mode {mode}");
+            // 1 comes before 3.
+            let cut = tokenize(&book, b"\xff", mode, &mut scratch);
+            assert_eq!((cut.number, cut.count), (1, 0), "mode {mode}, malformed");
+            assert!(scratch == before, "a refused cut has written");
+        }
+        for mode in [0, 1] {
+            let cut = tokenize(&book, b"ab", mode, &mut Scratch::with_sizes(4, 4, 4));
+            assert_eq!((cut.number, cut.count), (0, 1), "mode {mode}");
+        }
     }
 }

@@ -55,6 +55,16 @@ pub struct Dictionary {
     areas: Areas,
 }
 
+/// Which cut [`Dictionary::tokenize`] chooses. The cases have the library's numbers.
+#[derive(Clone, Copy, Debug, PartialEq, Eq, Hash)]
+#[repr(u32)]
+pub enum TokenizeMode {
+    /// [`Dictionary::cut`].
+    Default = 0,
+    /// [`Dictionary::cut_for_search`].
+    Search = 1,
+}
+
 /// The areas that a cut works in, and the token area that it writes.
 ///
 /// What they hold before a cut plays no part in it.
@@ -149,6 +159,28 @@ impl Dictionary {
         tokens::tokens_of(cut, sentence, &scratch.tokens)
     }
 
+    /// Cuts a sentence into words, before each of them what search finds in it: its parts between `.`, `_` and `-`, and the held
+    /// words of two and of three characters in it.
+    pub fn cut_for_search<'s, 't>(
+        &self,
+        sentence: &'s str,
+        scratch: &'t mut Scratch,
+    ) -> Result<Tokens<'s, 't>, Stopped<'s, 't>> {
+        let cut = calls::cut_for_search(&self.areas, sentence.as_bytes(), scratch);
+        tokens::tokens_of(cut, sentence, &scratch.tokens)
+    }
+
+    /// Cuts a sentence into words by a mode.
+    pub fn tokenize<'s, 't>(
+        &self,
+        sentence: &'s str,
+        mode: TokenizeMode,
+        scratch: &'t mut Scratch,
+    ) -> Result<Tokens<'s, 't>, Stopped<'s, 't>> {
+        let cut = calls::tokenize(&self.areas, sentence.as_bytes(), mode as u32, scratch);
+        tokens::tokens_of(cut, sentence, &scratch.tokens)
+    }
+
     /// Cuts a sentence into all the words that it holds.
     pub fn cut_all<'s, 't>(&self, sentence: &'s str, scratch: &'t mut Scratch) -> Result<Tokens<'s, 't>, Stopped<'s, 't>> {
         let cut = calls::cut_all(&self.areas, sentence.as_bytes(), scratch);
@@ -158,6 +190,27 @@ impl Dictionary {
     /// As [`Dictionary::cut`], of bytes that may be malformed.
     pub fn cut_bytes<'s, 't>(&self, sentence: &'s [u8], scratch: &'t mut Scratch) -> Result<Tokens<'s, 't>, Stopped<'s, 't>> {
         let cut = calls::cut(&self.areas, sentence, scratch);
+        tokens::tokens_of_bytes(cut, sentence, &scratch.tokens)
+    }
+
+    /// As [`Dictionary::cut_for_search`], of bytes that may be malformed.
+    pub fn cut_for_search_bytes<'s, 't>(
+        &self,
+        sentence: &'s [u8],
+        scratch: &'t mut Scratch,
+    ) -> Result<Tokens<'s, 't>, Stopped<'s, 't>> {
+        let cut = calls::cut_for_search(&self.areas, sentence, scratch);
+        tokens::tokens_of_bytes(cut, sentence, &scratch.tokens)
+    }
+
+    /// As [`Dictionary::tokenize`], of bytes that may be malformed.
+    pub fn tokenize_bytes<'s, 't>(
+        &self,
+        sentence: &'s [u8],
+        mode: TokenizeMode,
+        scratch: &'t mut Scratch,
+    ) -> Result<Tokens<'s, 't>, Stopped<'s, 't>> {
+        let cut = calls::tokenize(&self.areas, sentence, mode as u32, scratch);
         tokens::tokens_of_bytes(cut, sentence, &scratch.tokens)
     }
 
@@ -173,8 +226,10 @@ impl Dictionary {
 }
 
 impl Scratch {
-    /// Areas of so many places. A sentence needs its characters + 1 of work; a block a place of edges for each word that starts
-    /// anywhere in it; `cut` at most as many tokens as characters.
+    /// Areas of so many places. A sentence needs its characters + 1 of work; a block a place of edges for each held word at each
+    /// place where it starts. Of tokens, as many places as characters suffice for `cut`, and 7 thirds of the characters, rounded
+    /// down, for `cut_for_search`. `cut_all` needs a place for each held word at each place of a Han block where it starts, and
+    /// for each token between these blocks; that may be more than the characters.
     pub fn with_sizes(work: usize, edges: usize, tokens: usize) -> Scratch {
         Scratch {
             chars: vec![0; work],

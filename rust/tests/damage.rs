@@ -13,8 +13,8 @@ fn damaged_for_all(dictionary: &mut Dictionary, word: &str, what: &str) {
     assert_eq!(unchanged(dictionary, |d| d.load(&[b"\n\n", word, b" 1"].concat())), at_line(3, Error::Damaged), "load, {what}");
     assert_eq!(unchanged(dictionary, |d| d.add_word(word, 1)), Err(Error::Damaged), "add, {what}");
     assert_eq!(dictionary.lookup(word), Err(Error::Damaged), "lookup, {what}");
-    for cut in [Dictionary::cut_bytes, Dictionary::cut_all_bytes] {
-        assert_eq!(words(cut(dictionary, word, &mut scratch(16, 16, 16))), (8, vec![]), "cuts, {what}");
+    for (name, cut) in CUTS {
+        assert_eq!(words(cut(dictionary, word, &mut scratch(16, 16, 16))), (8, vec![]), "{name}, {what}");
     }
 }
 
@@ -38,11 +38,11 @@ fn heads_beyond_their_ends() {
     for (what, place, value) in heads {
         let mut damaged = changed(&whole, |a| a.head[place] = value);
         damaged_for_all(&mut damaged, "灯", what);
-        assert_eq!(refused_cuts(&damaged, "灯".as_bytes(), &scratch(2, 1, 1)), (8, 8), "{what}");
+        assert_eq!(refused_cuts(&damaged, "灯".as_bytes(), &scratch(2, 1, 1)), 8, "{what}");
         // An empty sentence meets the head too; 3 and 9 come before it.
-        assert_eq!(refused_cuts(&damaged, b"", &scratch(1, 0, 0)), (8, 8), "{what}");
-        assert_eq!(refused_cuts(&damaged, "灯".as_bytes(), &scratch(1, 1, 1)), (9, 9), "{what}");
-        assert_eq!(refused_cuts(&damaged, b"\xff", &scratch(2, 1, 1)), (3, 3), "{what}");
+        assert_eq!(refused_cuts(&damaged, b"", &scratch(1, 0, 0)), 8, "{what}");
+        assert_eq!(refused_cuts(&damaged, "灯".as_bytes(), &scratch(1, 1, 1)), 9, "{what}");
+        assert_eq!(refused_cuts(&damaged, b"\xff", &scratch(2, 1, 1)), 3, "{what}");
         // Without a word nothing is met.
         assert_eq!(unchanged(&mut damaged, |d| d.load(b"")), Ok(0), "{what}");
         assert_eq!(unchanged(&mut damaged, |d| d.load(b"\n \n")), Ok(2), "{what}");
@@ -132,12 +132,16 @@ fn bad_word_numbers_in_the_slots() {
         assert_eq!(cut(&damaged, "甲"), (0, vec!["甲"]), "{word}");
         // The tokens of earlier blocks stay; `cut_all` keeps what it has written in this one too.
         assert_eq!(cut(&damaged, "丁,甲乙"), (8, vec!["丁", ","]), "{word}");
+        assert_eq!(cut_for_search(&damaged, "丁,甲乙"), (8, vec!["丁", ","]), "{word}");
         assert_eq!(cut_all(&damaged, "甲,甲乙"), (8, vec!["甲", ",", "甲"]), "{word}");
         // A bad number comes before its own edge's 10, and after the 10 of an edge before it.
         assert_eq!(words(damaged.cut("甲乙", &mut scratch(3, 1, 2))), (8, vec![]), "{word}");
         assert_eq!(words(damaged.cut("甲乙", &mut scratch(3, 0, 2))), (10, vec![]), "{word}");
+        assert_eq!(words(damaged.cut_for_search("甲乙", &mut scratch(3, 1, 2))), (8, vec![]), "{word}");
+        assert_eq!(words(damaged.cut_for_search("甲乙", &mut scratch(3, 0, 2))), (10, vec![]), "{word}");
         // With all places full, 8 in the next block comes before 11; `cut_all` meets 11 first.
         assert_eq!(words(damaged.cut("丁,甲乙", &mut scratch(5, 4, 2))), (8, vec!["丁", ","]), "{word}");
+        assert_eq!(words(damaged.cut_for_search("丁,甲乙", &mut scratch(5, 4, 2))), (8, vec!["丁", ","]), "{word}");
         assert_eq!(words(damaged.cut_all(",甲乙", &mut scratch(4, 0, 1))), (11, vec![","]), "{word}");
         // Only the insertion reaches the step where its bit is missing, and it tests the number too.
         let mut bitless = changed(&damaged, |a| a.root_children['甲' as usize] &= 0xff_ffff);
@@ -216,5 +220,9 @@ fn loops_and_strange_floats_are_cut_all_the_same() {
         let strange = changed(&book_a(), |a| a.logarithms.fill(logarithm));
         let (number, tokens) = cut(&strange, "打开,客厅灯");
         assert_eq!((number, tokens.concat()), (0, "打开,客厅灯".to_string()), "{logarithm}");
+        // Search finds the held words of the tokens, whichever they are.
+        let (number, searched) = cut_for_search(&strange, "打开,客厅灯");
+        assert_eq!(number, 0, "{logarithm}");
+        assert!(tokens.iter().all(|token| searched.contains(token)), "{logarithm}");
     }
 }

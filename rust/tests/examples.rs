@@ -1,7 +1,7 @@
 //! Document 01's examples.
 mod common;
 use common::*;
-use tongsvale::{Dictionary, Error, Scratch, Token};
+use tongsvale::{Dictionary, Error, Scratch, Token, TokenizeMode};
 
 #[test]
 fn book_a_is_cut() {
@@ -9,6 +9,7 @@ fn book_a_is_cut() {
     for dictionary in [book_a(), loaded(1, 32, 8, BOOK_A)] {
         assert_eq!(cut(&dictionary, "打开灯"), (0, vec!["打开", "灯"]));
         assert_eq!(cut(&dictionary, "打开客厅灯"), (0, vec!["打开", "客厅灯"]));
+        assert_eq!(cut_for_search(&dictionary, "打开客厅灯"), (0, vec!["打开", "客厅", "厅灯", "客厅灯"]));
         assert_eq!(cut_all(&dictionary, "打开客厅灯"), (0, vec!["打", "打开", "开", "客厅", "客厅灯", "厅灯", "灯"]));
     }
 }
@@ -49,6 +50,25 @@ fn letters_join_and_cr_lf_is_one_token() {
 }
 
 #[test]
+fn search_writes_parts_and_words_twice_where_they_are_found_twice() {
+    let dictionary = loaded(65_536, 16, 2, "WES 1\nWES-5.4.5 1\n");
+    assert_eq!(cut_for_search(&dictionary, "WES-5.4.5"), (0, vec!["WES", "WES", "WES-5.4.5"]));
+    assert_eq!(cut(&dictionary, "WES-5.4.5"), (0, vec!["WES-5.4.5"]));
+}
+
+#[test]
+fn each_mode_is_its_cut() {
+    for dictionary in [book_a(), loaded(65_536, 16, 2, "WES 1\nWES-5.4.5 1\n"), Dictionary::with_sizes(1, 16, 1).unwrap()] {
+        for sentence in ["", "打开客厅灯", "WES-5.4.5", "ab-1\r\n!", "打开WES-5.4.5!客厅灯"] {
+            let mut room = scratch(64, 64, 64);
+            assert_eq!(words(dictionary.tokenize(sentence, TokenizeMode::Default, &mut room)), cut(&dictionary, sentence));
+            let searched = words(dictionary.tokenize(sentence, TokenizeMode::Search, &mut room));
+            assert_eq!(searched, cut_for_search(&dictionary, sentence));
+        }
+    }
+}
+
+#[test]
 fn tokens_have_both_kinds_of_offsets() {
     let dictionary = book_a();
     let mut scratch = Scratch::with_sizes(7, 7, 5);
@@ -59,6 +79,10 @@ fn tokens_have_both_kinds_of_offsets() {
     assert!(tokens.eq(expected));
     // Bytes give the same.
     assert!(dictionary.cut_bytes("é!打开灯".as_bytes(), &mut scratch).unwrap().eq(expected));
+    let searched = dictionary.cut_for_search("é!客厅灯", &mut scratch).unwrap();
+    let searched: Vec<_> = searched.map(|t| (t.word, t.start, t.end, t.byte_start, t.byte_end)).collect();
+    let expected = [("é", 0, 1, 0, 2), ("!", 1, 2, 2, 3), ("客厅", 2, 4, 3, 9), ("厅灯", 3, 5, 6, 12), ("客厅灯", 2, 5, 3, 12)];
+    assert_eq!(searched, expected);
     let all =
         dictionary.cut_all_bytes("é打开".as_bytes(), &mut scratch).unwrap().map(|t| (t.start, t.end, t.byte_start, t.byte_end));
     assert!(all.eq([(0, 1, 0, 2), (1, 2, 2, 5), (1, 3, 2, 8), (2, 3, 5, 8)]));
@@ -111,6 +135,7 @@ fn what_a_scratch_held_plays_no_part() {
         assert_eq!(cut(&dictionary, sentence), words(dictionary.cut(sentence, &mut zeros)));
         // The same scratch again, as the first cut left it.
         assert_eq!(cut(&dictionary, sentence), words(dictionary.cut(sentence, &mut zeros)));
+        assert_eq!(cut_for_search(&dictionary, sentence), words(dictionary.cut_for_search(sentence, &mut zeros)));
         assert_eq!(cut_all(&dictionary, sentence), words(dictionary.cut_all(sentence, &mut zeros)));
     }
 }

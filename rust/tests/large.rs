@@ -50,18 +50,19 @@ fn a_sentence_is_16_777_215_bytes_at_most() {
     let last = tokens.last().unwrap();
     assert_eq!((last.word, last.start, last.end), ("灯", 4_194_303, 4_194_304));
     assert_eq!((last.byte_start, last.byte_end), (16_777_212, 16_777_215));
+    assert!(dictionary.cut_for_search(&sentence, &mut scratch).unwrap().last() == Some(last));
     // The one held word; the other characters are dropped.
     let all = dictionary.cut_all(&sentence, &mut scratch).unwrap();
     assert!(all.eq([last]));
     // A byte more is refused, before malformed bytes and a short work area are met.
     let small = common::scratch(1, 1, 1);
     let longer = [sentence.as_bytes(), b"a"].concat();
-    assert_eq!(refused_cuts(&dictionary, &longer, &small), (2, 2));
-    assert_eq!(refused_cuts(&dictionary, &vec![0xff; 16_777_216], &small), (2, 2));
-    assert_eq!(refused_cuts(&dictionary, sentence.as_bytes(), &small), (9, 9));
+    assert_eq!(refused_cuts(&dictionary, &longer, &small), 2);
+    assert_eq!(refused_cuts(&dictionary, &vec![0xff; 16_777_216], &small), 2);
+    assert_eq!(refused_cuts(&dictionary, sentence.as_bytes(), &small), 9);
     // Bad areas come before the length.
     let bad = changed(&dictionary, |a| a.head.truncate(3));
-    assert_eq!(refused_cuts(&bad, &longer, &small), (1, 1));
+    assert_eq!(refused_cuts(&bad, &longer, &small), 1);
     assert_eq!(bad.lookup(&longer), Err(Error::BadAreas));
 }
 
@@ -81,7 +82,7 @@ fn number_1_for_areas_too_large() {
         assert_eq!(unchanged(&mut dictionary, |d| d.load(b"a 1")), at_line(0, Error::BadAreas), "{what}");
         assert_eq!(unchanged(&mut dictionary, |d| d.add_word(b"a", 1)), Err(Error::BadAreas), "{what}");
         assert_eq!(dictionary.lookup(b"a"), Err(Error::BadAreas), "{what}");
-        assert_eq!(refused_cuts(&dictionary, b"a", &scratch(2, 1, 1)), (1, 1), "{what}");
+        assert_eq!(refused_cuts(&dictionary, b"a", &scratch(2, 1, 1)), 1, "{what}");
         assert_eq!(Dictionary::with_sizes(roots, slots, records).unwrap_err(), Error::BadAreas, "{what}");
     }
 }

@@ -1,7 +1,7 @@
 //! Every refusal of an undamaged book, but for what takes much memory (`large.rs`).
 mod common;
 use common::*;
-use tongsvale::{Areas, Dictionary, Error};
+use tongsvale::{Areas, Dictionary, Error, TokenizeMode};
 
 /// Areas of these sizes in which no place holds 0.
 fn filled(roots: usize, slots: usize, records: usize) -> Areas {
@@ -17,7 +17,7 @@ fn filled(roots: usize, slots: usize, records: usize) -> Areas {
     areas
 }
 
-/// All six calls refuse these areas with 1 and leave them alone.
+/// All calls refuse these areas with 1 and leave them alone.
 #[track_caller]
 fn refused_by_all(areas: Areas, what: &str) {
     let mut dictionary = Dictionary::from_areas(areas);
@@ -30,8 +30,8 @@ fn refused_by_all(areas: Areas, what: &str) {
     assert_eq!(unchanged(&mut dictionary, |d| d.add_word(b"", 1)), Err(Error::BadAreas), "add the empty word, {what}");
     assert_eq!(dictionary.lookup(b"a"), Err(Error::BadAreas), "lookup, {what}");
     assert_eq!(dictionary.lookup(b""), Err(Error::BadAreas), "look up the empty word, {what}");
-    assert_eq!(refused_cuts(&dictionary, b"a", &scratch(2, 1, 1)), (1, 1), "cuts, {what}");
-    assert_eq!(refused_cuts(&dictionary, b"\xff", &scratch(0, 0, 0)), (1, 1), "cuts, malformed, {what}");
+    assert_eq!(refused_cuts(&dictionary, b"a", &scratch(2, 1, 1)), 1, "cuts, {what}");
+    assert_eq!(refused_cuts(&dictionary, b"\xff", &scratch(0, 0, 0)), 1, "cuts, malformed, {what}");
 }
 
 #[test]
@@ -106,8 +106,8 @@ fn number_1_for_a_part_of_a_token() {
     for length in [1, 2, 3, 5, 255] {
         let mut scratch = scratch(8, 8, 64);
         scratch.tokens.truncate(length);
-        assert_eq!(refused_cuts(&dictionary, "灯".as_bytes(), &scratch), (1, 1), "{length} numbers");
-        assert_eq!(refused_cuts(&dictionary, b"\xff", &scratch), (1, 1), "{length} numbers, malformed");
+        assert_eq!(refused_cuts(&dictionary, "灯".as_bytes(), &scratch), 1, "{length} numbers");
+        assert_eq!(refused_cuts(&dictionary, b"\xff", &scratch), 1, "{length} numbers, malformed");
     }
     assert_eq!(words(dictionary.cut("灯", &mut scratch(2, 1, 1))), (0, vec!["灯"]));
 }
@@ -143,11 +143,11 @@ fn number_3() {
         // 3 comes before 4.
         assert_eq!(unchanged(&mut dictionary, |d| d.add_word(bytes, u64::MAX)), Err(Error::Malformed));
         assert_eq!(dictionary.lookup(bytes), Err(Error::Malformed), "lookup {bytes:x?}");
-        assert_eq!(refused_cuts(&dictionary, bytes, &scratch(8, 8, 8)), (3, 3), "cuts {bytes:x?}");
+        assert_eq!(refused_cuts(&dictionary, bytes, &scratch(8, 8, 8)), 3, "cuts {bytes:x?}");
         // What is well formed before it is not cut, and 3 comes before 9.
         let sentence = ["打开灯".as_bytes(), bytes].concat();
-        assert_eq!(refused_cuts(&dictionary, &sentence, &scratch(16, 8, 8)), (3, 3), "cuts {sentence:x?}");
-        assert_eq!(refused_cuts(&dictionary, &sentence, &scratch(0, 0, 0)), (3, 3), "cuts {sentence:x?}");
+        assert_eq!(refused_cuts(&dictionary, &sentence, &scratch(16, 8, 8)), 3, "cuts {sentence:x?}");
+        assert_eq!(refused_cuts(&dictionary, &sentence, &scratch(0, 0, 0)), 3, "cuts {sentence:x?}");
     }
 }
 
@@ -253,8 +253,10 @@ fn number_9() {
             let mut short = enough.clone();
             shorten(&mut short, characters);
             assert_eq!(words(dictionary.cut(sentence, &mut enough)), cut(&dictionary, sentence));
+            assert_eq!(words(dictionary.cut_for_search(sentence, &mut enough)), cut_for_search(&dictionary, sentence));
             let before = short.clone();
             assert_eq!(words(dictionary.cut(sentence, &mut short)), (9, vec![]), "slice {slice}, {sentence}");
+            assert_eq!(words(dictionary.cut_for_search(sentence, &mut short)), (9, vec![]), "slice {slice}, {sentence}");
             assert_eq!(short, before);
             // The work area of `cut_all` is the first two slices.
             let expected = if slice < 2 { (9, vec![]) } else { cut_all(&dictionary, sentence) };
@@ -274,6 +276,7 @@ fn number_10() {
     assert_eq!(words(dictionary.cut(sentence, &mut scratch(6, 7, 5))), (0, vec!["打开", "客厅灯"]));
     for edges in 0..7 {
         assert_eq!(words(dictionary.cut(sentence, &mut scratch(6, edges, 5))), (10, vec![]), "{edges} edges");
+        assert_eq!(words(dictionary.cut_for_search(sentence, &mut scratch(6, edges, 5))), (10, vec![]), "{edges} edges");
     }
     // The edge area counts as its shorter slice.
     for (ends, records) in [(6, 7), (7, 6)] {
@@ -287,6 +290,9 @@ fn number_10() {
     assert_eq!(words(dictionary.cut("灯!打开客厅灯", &mut scratch)), (10, vec!["灯", "!"]));
     assert_eq!(scratch.tokens[..8], [0, 1, 0, 3, 1, 2, 3, 4]);
     assert_eq!(scratch.tokens[8..], [909; 12]);
+    // What search writes of earlier blocks stays too.
+    let searched = words(dictionary.cut_for_search("客厅灯!打开客厅灯", &mut common::scratch(10, 6, 9)));
+    assert_eq!(searched, (10, vec!["客厅", "厅灯", "客厅灯", "!"]));
     // A lone step takes no edge, and `cut_all` none at all.
     assert_eq!(words(dictionary.cut("甲乙", &mut common::scratch(3, 0, 2))), (0, vec!["甲", "乙"]));
     assert_eq!(words(dictionary.cut_all(sentence, &mut common::scratch(6, 0, 7))), cut_all(&dictionary, sentence));
@@ -316,4 +322,28 @@ fn number_11() {
     // With all places full the next block is still walked, so its 10 comes before 11.
     assert_eq!(words(dictionary.cut("灯!打开客厅灯", &mut scratch(8, 6, 2))), (10, vec!["灯", "!"]));
     assert_eq!(words(dictionary.cut("灯!打开客厅灯", &mut scratch(8, 7, 2))), (11, vec!["灯", "!"]));
+}
+
+/// 11 between two parts, between parts and words, between words of two and of three characters, and before the token itself.
+#[test]
+fn number_11_in_the_middle_of_a_token() {
+    let dictionary = loaded(1, 64, 16, "ab-cd甲 100\nab 1\nb- 1\n-cd 1\nd甲 1\ncd甲 1\n");
+    let sentence = "灯ab-cd甲!";
+    let all = ["灯", "ab", "cd甲", "ab", "b-", "d甲", "-cd", "cd甲", "ab-cd甲", "!"];
+    for places in 0..=all.len() + 2 {
+        let expected = if places < all.len() { (11, all[..places].to_vec()) } else { (0, all.to_vec()) };
+        for mode in [None, Some(TokenizeMode::Search)] {
+            let mut room = scratch(9, 9, places);
+            let found = match mode {
+                None => words(dictionary.cut_for_search(sentence, &mut room)),
+                Some(mode) => words(dictionary.tokenize(sentence, mode, &mut room)),
+            };
+            assert_eq!(found, expected, "{places} places");
+            assert!(room.tokens[4 * expected.1.len()..].iter().all(|&n| n == 909));
+        }
+    }
+    // With all places full the next block is still walked, so its 10 comes before 11, and the places stay full.
+    let sentence = "ab-cd甲!ab-cd甲ab";
+    assert_eq!(words(dictionary.cut_for_search(sentence, &mut scratch(16, 6, 9))), (10, [&all[1..9], &["!"]].concat()));
+    assert_eq!(words(dictionary.cut_for_search(sentence, &mut scratch(16, 7, 9))), (11, [&all[1..9], &["!"]].concat()));
 }

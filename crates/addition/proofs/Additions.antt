@@ -19,22 +19,22 @@ use Rattle.book.specs.declared.Outcome.{Outcome}
 use Rattle.book.specs.declared.Outcome.the-variants.{Done, BadAreas, TooLong, BadFrequency}
 use Rattle.book.specs.Areas.{bookOf}
 use Rattle.book.specs.Returns.{Book, isDone, sized, longestText, greatestTotal, damagedHead}
-use Rattle.book.specs.Enter.{decide, AddAnswer, addRefused, addBy, addChars, addOf, enter}
+use Rattle.book.specs.Enter.{decide, AddAnswer, addAnswer, addRefused, addBy, addChars, addOf, enter}
 use Rattle.lookup.specs.declared.WordTest.{WordTest}
 use Rattle.lookup.specs.declared.WordTest.the-variants.{Refused, Empty, Word}
 use Rattle.lookup.specs.Tests.{testedChars, testedWord}
 use Rattle.entry.specs.declared.Entered.{Entered}
-use Rattle.entry.specs.Texts.{EnterAnswer, enterBy, enterText, entered}
+use Rattle.entry.specs.Texts.{EnterAnswer, enterAnswer, enterBy, enterText}
 use Rattle.entry.proofs.Bounds.{Promises, entering}
 use Rattle.entry.proofs.Lines.{refusal}
 use Rattle.addition.specs.declared.Added.{Added}
-use Rattle.addition.specs.Answers.{added, notAdded, addedBy}
+use Rattle.addition.specs.Answers.{notAdded, addedBy}
 
 -- ---- a word that enters
 
 -- what is answered, by what entering the word answers
 abbrev addOn : EnterAnswer → ℕ → AddAnswer
-addOn e frequency = record { outcome = e .outcome; frequency = cond (isDone (e .outcome)) frequency 0; book = e .book }
+addOn e frequency = addAnswer (e .outcome) (cond (isDone (e .outcome)) frequency 0) (e .book)
 
 by-decision : (b : Book) (word : List ℕ) (frequency : ℕ) (d : Decision) → Promises b d → addOn (enterBy b word frequency d) frequency ≡ addBy b word frequency d
 by-decision b word frequency (Refuse o) p = rw (refusal b o p)
@@ -84,17 +84,17 @@ module _ (b : Book) (word : List ℕ) (frequency : ℕ) where
 -- ---- the answers, as they are given: with the head and the areas as they are left
 
 module _ (head : Head) (trie : CharTrie) (f : List ℕ) (l : List Float) (word : List ℕ) (frequency : ℕ) {t : WordTest} (tested : t ≡ testedWord (sized (bookOf head trie f l)) word) where
-  pub refused : {o : Outcome} → t ≡ Refused o → {r : Added} → r ≡ notAdded head o → added r trie f l ≡ addOf (bookOf head trie f l) word frequency
+  pub refused : {o : Outcome} → t ≡ Refused o → {r : Added} → r ≡ notAdded head o → addAnswer (r .outcome) (r .frequency) (bookOf (r .head) trie f l) ≡ addOf (bookOf head trie f l) word frequency
   refused e q = rw q (rw e at (by-tests (bookOf head trie f l) word frequency tested))
 
-  pub empty : t ≡ Empty → {r : Added} → r ≡ notAdded head Done → added r trie f l ≡ addOf (bookOf head trie f l) word frequency
+  pub empty : t ≡ Empty → {r : Added} → r ≡ notAdded head Done → addAnswer (r .outcome) (r .frequency) (bookOf (r .head) trie f l) ≡ addOf (bookOf head trie f l) word frequency
   empty e q = rw q (rw e at (by-tests (bookOf head trie f l) word frequency tested))
 
   module _ (e : t ≡ Word) where
-    pub too-frequent : greatestTotal < frequency → {r : Added} → r ≡ notAdded head BadFrequency → added r trie f l ≡ addOf (bookOf head trie f l) word frequency
+    pub too-frequent : greatestTotal < frequency → {r : Added} → r ≡ notAdded head BadFrequency → addAnswer (r .outcome) (r .frequency) (bookOf (r .head) trie f l) ≡ addOf (bookOf head trie f l) word frequency
     too-frequent g q = rw q (rw (e, lt-leb frequency greatestTotal g) at (by-tests (bookOf head trie f l) word frequency tested))
 
-    pub answered : frequency ≤ greatestTotal → (trie₁ : CharTrie) (f₁ : List ℕ) (l₁ : List Float) {a : Entered} → entered a trie₁ f₁ l₁ ≡ enterText (bookOf head trie f l) (charsOf word) frequency
-        → {r : Added} → r ≡ addedBy a frequency → added r trie₁ f₁ l₁ ≡ addOf (bookOf head trie f l) word frequency
+    pub answered : frequency ≤ greatestTotal → (trie₁ : CharTrie) (f₁ : List ℕ) (l₁ : List Float) {a : Entered} → enterAnswer (a .outcome) (bookOf (a .head) trie₁ f₁ l₁) ≡ enterText (bookOf head trie f l) (charsOf word) frequency
+        → {r : Added} → r ≡ addedBy a frequency → addAnswer (r .outcome) (r .frequency) (bookOf (r .head) trie₁ f₁ l₁) ≡ addOf (bookOf head trie f l) word frequency
     answered g trie₁ f₁ l₁ enters q =
         rw q (ap (λ (x : EnterAnswer). addOn x frequency) enters ∙ (rw (e, le-leb frequency greatestTotal g) at (by-tests (bookOf head trie f l) word frequency tested)))

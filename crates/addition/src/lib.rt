@@ -3,10 +3,11 @@
 //! The Rust grows its tables. Here a book is seven lent slices and a head by value, which goes in and comes back with the
 //! answer. The sizes of what is lent are tested, and nothing is required of the caller.
 ghost use mathlib.Core.Path.{_≡_};
-ghost use Rattle.trie.specs.Trie.{trieOf};
-ghost use Rattle.book.specs.Areas.{bookOf};
-ghost use Rattle.book.specs.Enter.{addOf};
-ghost use Rattle.addition.specs.Answers.{added, notAdded, addedBy};
+ghost use Rattle.trie.specs.Lent.{was};
+ghost use Rattle.book.specs.Areas.{bookLent, bookLeft};
+ghost use Rattle.book.specs.Enter.{addAnswer, addOf};
+ghost use Rattle.book.specs.Numbers.{addedReturns, addReturns};
+ghost use Rattle.addition.specs.Answers.{notAdded, addedBy};
 use book::Head;
 use book::Outcome;
 use entry::Entered;
@@ -36,7 +37,7 @@ fn added_by(entered: Entered, frequency: u64) -> Added
 {
     let outcome = entered.outcome;
     let head = entered.head;
-    if book::number_of(outcome) != 0 {
+    if !book::is_done(outcome) {
         return not_added(head, outcome);
     }
     Added {
@@ -59,7 +60,8 @@ pub fn add_word(
     word: &[u8],
     frequency: u64,
 ) -> Added
-    ensures { λ r. ⌜ added r (trieOf (now («root_children» .exit)) (now («root_words» .exit)) (now (keys .exit)) (now (children .exit)) (now (words .exit))) (now (frequencies .exit)) (now (logarithms .exit)) ≡ addOf (bookOf head (trieOf (now («root_children» .entry)) (now («root_words» .entry)) (now (keys .entry)) (now (children .entry)) (now (words .entry))) (now (frequencies .entry)) (now (logarithms .entry))) (now (word .entry)) frequency ⌝ }
+    ensures { λ r. ⌜ addAnswer (r .outcome) (r .frequency) (bookLeft (r .head) «root_children» «root_words» keys children words frequencies logarithms) ≡ addOf (bookLent head «root_children» «root_words» keys children words frequencies logarithms) (was word) frequency ⌝ }
+    ensures { λ r. ⌜ addedReturns (r .outcome) (r .frequency) ≡ addReturns (bookLent head «root_children» «root_words» keys children words frequencies logarithms) (was word) frequency ⌝ }
 {
     match lookup::test_word(
         root_children.len(),

@@ -11,7 +11,7 @@ use Rattle.book.specs.declared.Decision.the-variants.{Refuse, Replace, I
 use Rattle.book.specs.declared.Head.{Head}
 use Rattle.book.specs.declared.Outcome.the-variants.{TotalTooLarge, RecordsFull, SlotsFull, Damaged}
 use Rattle.book.specs.Returns.{greatestTotal, lastNode}
-use Rattle.book.specs.Enter.{replaceBy, emptySlots, insertBy}
+use Rattle.book.specs.Enter.{replaceBy, noRecord, emptySlots, insertBy}
 
 -- ---- a word that is held
 
@@ -33,24 +33,24 @@ module _ (h : Head) (records : ℕ) (keys : List ℕ) (slots nodes frequency : �
   total-passes g = rw (lt-ltb greatestTotal (h .total + frequency) g)
 
   module _ (a : h .total + frequency ≤ greatestTotal) where
-    pub records-taken : records ≤ h .records → Refuse RecordsFull ≡ insertBy h records keys slots nodes frequency
-    records-taken g = rw (le-ltb greatestTotal (h .total + frequency) a, le-leb records (h .records) g)
+    pub records-taken : noRecord h records ≡ true → Refuse RecordsFull ≡ insertBy h records keys slots nodes frequency
+    records-taken g = rw (le-ltb greatestTotal (h .total + frequency) a, g)
 
-    module _ (b : h .records < records) where
+    module _ (b : noRecord h records ≡ false) where
       pub slots-taken : length keys * 6 < (h .slots + slots) * 8 → Refuse SlotsFull ≡ insertBy h records keys slots nodes frequency
       slots-taken g =
-          rw (le-ltb greatestTotal (h .total + frequency) a, lt-leb records (h .records) b, lt-ltb (length keys * 6) ((h .slots + slots) * 8) g)
+          rw (le-ltb greatestTotal (h .total + frequency) a, b, lt-ltb (length keys * 6) ((h .slots + slots) * 8) g)
 
       module _ (c : (h .slots + slots) * 8 ≤ length keys * 6) where
         pub slots-missing : ltb (emptySlots keys) slots ≡ true → Refuse Damaged ≡ insertBy h records keys slots nodes frequency
         slots-missing g =
-            rw (le-ltb greatestTotal (h .total + frequency) a, lt-leb records (h .records) b, le-ltb (length keys * 6) ((h .slots + slots) * 8) c, g)
+            rw (le-ltb greatestTotal (h .total + frequency) a, b, le-ltb (length keys * 6) ((h .slots + slots) * 8) c, g)
 
         module _ (d : ltb (emptySlots keys) slots ≡ false) where
           pub nodes-missing : lastNode < h .next + nodes → Refuse Damaged ≡ insertBy h records keys slots nodes frequency
           nodes-missing g =
-              rw (le-ltb greatestTotal (h .total + frequency) a, lt-leb records (h .records) b, le-ltb (length keys * 6) ((h .slots + slots) * 8) c, d, lt-ltb lastNode (h .next + nodes) g)
+              rw (le-ltb greatestTotal (h .total + frequency) a, b, le-ltb (length keys * 6) ((h .slots + slots) * 8) c, d, lt-ltb lastNode (h .next + nodes) g)
 
           pub new-enters : h .next + nodes ≤ lastNode → Insert slots nodes (h .total + frequency) ≡ insertBy h records keys slots nodes frequency
           new-enters g =
-              rw (le-ltb greatestTotal (h .total + frequency) a, lt-leb records (h .records) b, le-ltb (length keys * 6) ((h .slots + slots) * 8) c, d, le-ltb lastNode (h .next + nodes) g)
+              rw (le-ltb greatestTotal (h .total + frequency) a, b, le-ltb (length keys * 6) ((h .slots + slots) * 8) c, d, le-ltb lastNode (h .next + nodes) g)

@@ -1,4 +1,6 @@
 -- The laws that the functions' proofs, here and in the crates above, cite.
+pub mod Outcomes
+pub mod Numbers
 pub mod Sizes
 pub mod Empties
 pub mod Decisions

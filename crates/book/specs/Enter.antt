@@ -43,6 +43,10 @@ noRecord h records = leb records (h .records)
 abbrev pub nextRecord : Head → ℕ
 nextRecord h = h .records
 
+-- the records used once it has taken it
+abbrev pub recordsAfterNew : Head → ℕ
+recordsAfterNew h = h .records + 1
+
 -- slots whose key is 0
 unfoldable pub emptySlots : List ℕ → ℕ
 emptySlots [] = 0
@@ -99,7 +103,7 @@ replaced b n frequency total = record {
 unfoldable pub inserted : Book → List ℕ → ℕ → ℕ → ℕ → ℕ → Book
 inserted b word frequency slots nodes total = record {
   head = record {
-    records = b .head .records + 1;
+    records = recordsAfterNew (b .head);
     slots = b .head .slots + slots;
     next = b .head .next + nodes;
     total = total;
@@ -126,13 +130,16 @@ pub record AddAnswer : Type 0 where
   pub frequency : ℕ
   pub book : Book
 
+abbrev pub addAnswer : Outcome → ℕ → Book → AddAnswer
+addAnswer o frequency b = record { outcome = o; frequency = frequency; book = b }
+
 abbrev pub addRefused : Book → Outcome → AddAnswer
-addRefused b o = record { outcome = o; frequency = 0; book = b }
+addRefused b o = addAnswer o 0 b
 
 abbrev pub addBy : Book → List ℕ → ℕ → Decision → AddAnswer
 addBy b word frequency (Refuse o) = addRefused b o
-addBy b word frequency (Replace n total) = record { outcome = Done; frequency = frequency; book = replaced b n frequency total }
-addBy b word frequency (Insert slots nodes total) = record { outcome = Done; frequency = frequency; book = inserted b word frequency slots nodes total }
+addBy b word frequency (Replace n total) = addAnswer Done frequency (replaced b n frequency total)
+addBy b word frequency (Insert slots nodes total) = addAnswer Done frequency (inserted b word frequency slots nodes total)
 
 abbrev pub addChars : Book → Option (List ℕ) → ℕ → AddAnswer
 addChars b none frequency = addRefused b Malformed
@@ -154,8 +161,8 @@ pub record LoadAnswer : Type 0 where
   pub line : ℕ
   pub book : Book
 
-abbrev pub loadStops : Outcome → ℕ → Book → LoadAnswer
-loadStops o line b = record { outcome = o; line = line; book = b }
+abbrev pub loadAnswer : Outcome → ℕ → Book → LoadAnswer
+loadAnswer o line b = record { outcome = o; line = line; book = b }
 
 -- a word of a line
 abbrev pub enter : Book → List ℕ → ℕ → Decision
@@ -163,14 +170,14 @@ enter b word frequency = cond (damagedHead b) (Refuse Damaged) (decide b word fr
 
 -- the lines after the first so many
 unfoldable pub loadLines : Book → ℕ → List (List ℕ) → LoadAnswer
-loadLines b n [] = loadStops Done n b
+loadLines b n [] = loadAnswer Done n b
 loadLines b n (l ∷ ls) =
     elim (meaningOf l) [
-      | malformed ↦ loadStops Malformed (n + 1) b
+      | malformed ↦ loadAnswer Malformed (n + 1) b
       | blank ↦ loadLines b (n + 1) ls
-      | badFrequency ↦ loadStops BadFrequency (n + 1) b
+      | badFrequency ↦ loadAnswer BadFrequency (n + 1) b
       | entry word frequency ↦ elim (enter b word frequency) [
-        | Refuse o ↦ loadStops o (n + 1) b
+        | Refuse o ↦ loadAnswer o (n + 1) b
         | Replace r total ↦ loadLines (replaced b r frequency total) (n + 1) ls
         | Insert slots nodes total ↦ loadLines (inserted b word frequency slots nodes total) (n + 1) ls
       ]
@@ -178,4 +185,4 @@ loadLines b n (l ∷ ls) =
 
 unfoldable pub loadOf : Book → List ℕ → LoadAnswer
 loadOf b text =
-    cond (sized b) (cond (leb (length text) longestText) (loadLines b 0 (linesOf text)) (loadStops TooLong 0 b)) (loadStops BadAreas 0 b)
+    cond (sized b) (cond (leb (length text) longestText) (loadLines b 0 (linesOf text)) (loadAnswer TooLong 0 b)) (loadAnswer BadAreas 0 b)

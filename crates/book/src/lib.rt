@@ -5,8 +5,9 @@ ghost use mathlib.Core.Path.{_≡_};
 ghost use Prim.Native.Nat.{_≤_, _<_};
 ghost use lib.Dec.{leb};
 ghost use lib.ListN.{length};
-ghost use Rattle.book.specs.Returns.{numberOf, allowed, headDamaged};
-ghost use Rattle.book.specs.Enter.{emptySlots, replaceBy, insertBy};
+ghost use Rattle.trie.specs.Lent.{was};
+ghost use Rattle.book.specs.Returns.{numberOf, isDone, allowed, headDamaged};
+ghost use Rattle.book.specs.Enter.{noRecord, nextRecord, emptySlots, replaceBy, insertBy};
 
 // The numbers of document 01's table, by their meaning.
 pub enum Outcome {
@@ -89,6 +90,13 @@ pub fn number_of(outcome: Outcome) -> u32
     }
 }
 
+// Whether a call is done: its number is 0.
+pub fn is_done(outcome: Outcome) -> bool
+    ensures { λ r. ⌜ r ≡ isDone outcome ⌝ }
+{
+    number_of(outcome) == 0
+}
+
 // The longest text that is read.
 pub const LONGEST_TEXT: usize = 16_777_215;
 
@@ -138,7 +146,7 @@ pub fn is_head_damaged(head: Head, records: usize, slots: usize) -> bool
 
 // Whether so many slots are empty, or more. It looks no further than it has to.
 fn has_empty(keys: &[u64], count: u64) -> bool
-    ensures { λ r. ⌜ r ≡ leb count (emptySlots (now (keys .entry))) ⌝ }
+    ensures { λ r. ⌜ r ≡ leb count (emptySlots (was keys)) ⌝ }
 {
     let mut left = count;
     let mut i = 0;
@@ -152,6 +160,20 @@ fn has_empty(keys: &[u64], count: u64) -> bool
         i += 1;
     }
     left == 0
+}
+
+// Whether every record is taken, of so many.
+pub fn no_record(head: Head, records: usize) -> bool
+    ensures { λ r. ⌜ r ≡ noRecord head records ⌝ }
+{
+    records as u64 <= head.records
+}
+
+// The record that a new word takes.
+pub fn next_record(head: Head) -> u64
+    ensures { λ r. ⌜ r ≡ nextRecord head ⌝ }
+{
+    head.records
 }
 
 // How a word that is held enters, by the total, its record's old frequency and that record.
@@ -182,13 +204,13 @@ pub fn decide_new(
     requires { ⌜ (length (now keys) ≤ 4194304) × (head .slots ≤ length (now keys)) ⌝ }
     requires { ⌜ (head .total ≤ 4294967295) × (head .next ≤ 16777215) × (frequency ≤ 4294967295) ⌝ }
     requires { ⌜ (slots ≤ 16777215) × (nodes ≤ 16777215) ⌝ }
-    ensures { λ r. ⌜ r ≡ insertBy head records (now (keys .entry)) slots nodes frequency ⌝ }
+    ensures { λ r. ⌜ r ≡ insertBy head records (was keys) slots nodes frequency ⌝ }
 {
     let total = head.total + frequency;
     if GREATEST_TOTAL < total {
         return Decision::Refuse(Outcome::TotalTooLarge);
     }
-    if records as u64 <= head.records {
+    if no_record(head, records) {
         return Decision::Refuse(Outcome::RecordsFull);
     }
     if keys.len() as u64 * 6 < (head.slots + slots) * 8 {

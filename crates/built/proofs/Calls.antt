@@ -20,7 +20,7 @@ use Rattle.book.specs.declared.Decision.the-variants.{Refuse, Replace, Insert}
 use Rattle.book.specs.declared.Outcome.{Outcome}
 use Rattle.book.specs.declared.Outcome.the-variants.{TooLong, Malformed, BadFrequency}
 use Rattle.book.specs.Returns.{numberOf, Book, longestText, greatestTotal, emptyBook}
-use Rattle.book.specs.Enter.{decide, replaced, inserted, AddAnswer, addRefused, addBy, addChars, addOf, LoadAnswer, loadStops, enter, loadLines, loadOf}
+use Rattle.book.specs.Enter.{decide, replaced, inserted, AddAnswer, addRefused, addBy, addChars, addOf, LoadAnswer, loadAnswer, enter, loadLines, loadOf}
 use Rattle.built.specs.Ledger.{Entry, enterIn, ledgerAfterAdd, enterLine, enterLines, linesBefore, ledgerAfterLoad}
 use Rattle.built.specs.Calls.{Call, Load, Add, answerOf, bookAfter, ledgerAfter, bookAfterAll, answersOf, ledgerAfterAll, allowedSizes, bookFrom, answersFrom, ledgerFrom}
 use Rattle.built.specs.Built.{Built}
@@ -71,14 +71,14 @@ module _ {b : Book} {ledger : List Entry} (built : Built b ledger) (text : List 
 
 -- what a load does at a line, by its meaning, and at a word, by the decision
 abbrev byDecision : Book → ℕ → List (List ℕ) → List ℕ → ℕ → Decision → LoadAnswer
-byDecision b n ls word frequency (Refuse o) = loadStops o (n + 1) b
+byDecision b n ls word frequency (Refuse o) = loadAnswer o (n + 1) b
 byDecision b n ls word frequency (Replace r total) = loadLines (replaced b r frequency total) (n + 1) ls
 byDecision b n ls word frequency (Insert slots nodes total) = loadLines (inserted b word frequency slots nodes total) (n + 1) ls
 
 abbrev byMeaning : Book → ℕ → List (List ℕ) → Meaning → LoadAnswer
-byMeaning b n ls malformed = loadStops Malformed (n + 1) b
+byMeaning b n ls malformed = loadAnswer Malformed (n + 1) b
 byMeaning b n ls blank = loadLines b (n + 1) ls
-byMeaning b n ls badFrequency = loadStops BadFrequency (n + 1) b
+byMeaning b n ls badFrequency = loadAnswer BadFrequency (n + 1) b
 byMeaning b n ls (entry word frequency) = byDecision b n ls word frequency (enter b word frequency)
 
 load-line : (b : Book) (n : ℕ) (l : List ℕ) (ls : List (List ℕ)) → loadLines b n (l ∷ ls) ≡ byMeaning b n ls (meaningOf l)
@@ -87,7 +87,7 @@ load-line b n l ls = go (meaningOf l)
   where
     decision : (word : List ℕ) (frequency : ℕ) (d : Decision)
         → _≡_ {A = LoadAnswer} (elim d [
-          | Refuse o ↦ loadStops o (n + 1) b
+          | Refuse o ↦ loadAnswer o (n + 1) b
           | Replace r total ↦ loadLines (replaced b r frequency total) (n + 1) ls
           | Insert slots nodes total ↦ loadLines (inserted b word frequency slots nodes total) (n + 1) ls
         ]) (byDecision b n ls word frequency d)
@@ -97,11 +97,11 @@ load-line b n l ls = go (meaningOf l)
 
     go : (m : Meaning)
         → _≡_ {A = LoadAnswer} (elim m [
-          | malformed ↦ loadStops Malformed (n + 1) b
+          | malformed ↦ loadAnswer Malformed (n + 1) b
           | blank ↦ loadLines b (n + 1) ls
-          | badFrequency ↦ loadStops BadFrequency (n + 1) b
+          | badFrequency ↦ loadAnswer BadFrequency (n + 1) b
           | entry word frequency ↦ elim (enter b word frequency) [
-            | Refuse o ↦ loadStops o (n + 1) b
+            | Refuse o ↦ loadAnswer o (n + 1) b
             | Replace r total ↦ loadLines (replaced b r frequency total) (n + 1) ls
             | Insert slots nodes total ↦ loadLines (inserted b word frequency slots nodes total) (n + 1) ls
           ]
@@ -133,7 +133,7 @@ line-kept {ledger} {ls = ls} {a = a} m e k = record {
 
 module _ {b : Book} {ledger : List Entry} (built : Built b ledger) (n : ℕ) where
   -- a line refused
-  line-refused : {l : List ℕ} {ls : List (List ℕ)} (o : Outcome) → numberOf o ≢ 0 → numberOf o ≢ 8 → LinesKept ledger n (l ∷ ls) (loadStops o (n + 1) b)
+  line-refused : {l : List ℕ} {ls : List (List ℕ)} (o : Outcome) → numberOf o ≢ 0 → numberOf o ≢ 8 → LinesKept ledger n (l ∷ ls) (loadAnswer o (n + 1) b)
   unfolding enterLines
   line-refused o refused undamaged = record { entered = 0; built = built; undamaged = undamaged; all-entered = λ e. absurd (refused e); line-after = λ e. omega arith }
 
@@ -183,7 +183,7 @@ module _ {b : Book} {ledger : List Entry} (built : Built b ledger) (text : List 
           rw refused (subst (λ (n : ℕ). Built (a .book) (enterLines ledger (take n (linesOf text)))) before (k .built))
 
   -- a text that is too long: no line
-  load-too-long : LoadKept (loadStops TooLong 0 b)
+  load-too-long : LoadKept (loadAnswer TooLong 0 b)
   unfolding ledgerAfterLoad enterLines
   load-too-long = (built, (λ q. omega arith))
 
@@ -191,7 +191,7 @@ module _ {b : Book} {ledger : List Entry} (built : Built b ledger) (text : List 
   unfolding loadOf
   load-kept = rw (sizes-allowed built) (go (leb (length text) longestText))
     where
-      go : (t : Bool) → LoadKept (cond t (loadLines b 0 (linesOf text)) (loadStops TooLong 0 b))
+      go : (t : Bool) → LoadKept (cond t (loadLines b 0 (linesOf text)) (loadAnswer TooLong 0 b))
       go true = load-lines (loadLines b 0 (linesOf text)) (lines-kept (linesOf text) b ledger built 0)
       go false = load-too-long
 

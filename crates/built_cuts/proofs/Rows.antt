@@ -1,5 +1,5 @@
 -- The words of a block by the ledger, as rows: for each position the beginnings of what follows that the ledger has, ends rising. In a book built by
--- calls the walk from each position meets exactly these (`walk-as-ledger`), so the block's edges are theirs.
+-- calls the walk from each position meets exactly these (`walk-as-ledger`), so the block's edges are theirs, and its cuts go by them.
 -- Assumes nothing.
 use mathlib.Core.Path.{_≡_, refl, sym, ap, _∙_, subst}
 use mathlib.Core.Bool.{Bool, true, false, cond}
@@ -12,6 +12,7 @@ use borrow.Author.Tests.{leb-true, leb-false, ltb-true, ltb-false, le-leb, lt-le
 use lib.Dec.{leb, ltb}
 use lib.ListN.{length, getD, take, drop, length-drop, length-map}
 use Rattle.utf8.specs.Encoding.{Scalars}
+use Rattle.score.specs.Logarithm.{logFloat}
 use Rattle.book.specs.declared.Outcome.the-variants.{EdgesFull}
 use Rattle.book.specs.Returns.{Book}
 use Rattle.book.specs.Prefixes.{Edge, wordsFrom}
@@ -21,7 +22,8 @@ use Rattle.built.proofs.Claims.{walk-as-ledger}
 use Rattle.route.specs.Paths.{Word, edgeOf, edgesOf}
 use Rattle.route.specs.Claims.{Rising}
 use Rattle.cuts.specs.Edges.{walksOf, Edges, edges, stopped, before, edgesWithin}
-use Rattle.built_cuts.specs.Claims.{HeldRows, wordCount, met, BlockWords}
+use Rattle.cuts.specs.Cuts.{CutAnswer, cutEdges, cutBlock, searchEdges, searchBlock}
+use Rattle.built_cuts.specs.Claims.{HeldRows, wordCount, met, WalksMeet, GoesByRows, BlockWords}
 
 -- ---- the words from a position
 
@@ -206,12 +208,32 @@ edges-within (row ∷ rows) room = by (edgesWithin (room - length es) (map met (
 
 -- ---- the words of a block
 
+-- a cut that goes by edges, which are all there or more than the room
+by-room : (fits : Bool) (rows : List (List Edge)) (f : Edges → CutAnswer) → f (cond fits (edges rows) (stopped EdgesFull)) ≡ cond fits (f (edges rows)) (f (stopped EdgesFull))
+by-room true rows f = refl
+by-room false rows f = refl
+
+goes-by-rows : (b : Book) (cs : List ℕ) (rows : List (List Word)) → WalksMeet b cs rows → GoesByRows b cs rows
+unfolding cutBlock searchBlock
+goes-by-rows b cs rows meets = record {
+  cut = λ room base w.
+      ap (cutEdges (logFloat (b .head .total)) base cs w) (meets .within room)
+      ∙ by-room (leb (wordCount rows) room) (edgesOf rows) (cutEdges (logFloat (b .head .total)) base cs w);
+  cut-for-search = λ room base w.
+      ap (searchEdges (logFloat (b .head .total)) base cs w) (meets .within room)
+      ∙ by-room (leb (wordCount rows) room) (edgesOf rows) (searchEdges (logFloat (b .head .total)) base cs w);
+}
+
 pub block-words : (b : Book) (ledger : List Entry) → BuiltByCalls b ledger → (cs : List ℕ) → Scalars cs → BlockWords b ledger cs
 block-words b ledger by cs s = record {
   rows = rowsFrom ledger 0 cs;
   held = held-rows ledger cs;
-  meets = record {
-    walks = walks-met b ledger by cs 0 s;
-    within = λ room. rw (walks-met b ledger by cs 0 s) (edges-within (rowsFrom ledger 0 cs) room);
-  };
+  meets = walks-meet;
+  goes-by = goes-by-rows b cs (rowsFrom ledger 0 cs) walks-meet;
 }
+  where
+    walks-meet : WalksMeet b cs (rowsFrom ledger 0 cs)
+    walks-meet = record {
+      walks = walks-met b ledger by cs 0 s;
+      within = λ room. rw (walks-met b ledger by cs 0 s) (edges-within (rowsFrom ledger 0 cs) room);
+    }

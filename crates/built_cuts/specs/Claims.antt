@@ -1,6 +1,6 @@
 -- What is claimed of cuts in books built by calls: document 01, "Edges and route", with the words and frequencies of the ledger; and of search words in
--- every book. A block is given by its characters, and positions are counted from its start. `cutBlock` and `searchBlock` (`cuts/specs/Cuts.antt`) cut it
--- by `edgesWithin` of its walks, `routeOf` of these edges and L(total), and `heldBetween`, of which the claims speak.
+-- every book. A block is given by its characters, and positions are counted from its start. `cutBlock` and `searchBlock` (`cuts/specs/Cuts.antt`) are
+-- what the public cuts do with a block of their class; `GoesByRows` ties them to the rows and routes of which the claims speak.
 -- Proofs: `proofs/Routes.antt`, `proofs/Sentences.antt`, `proofs/SearchWords.antt`.
 -- Assumes nothing.
 use Prim.Native.Nat.{ℕ, _+_, _≤_}
@@ -31,8 +31,10 @@ use Rattle.route.specs.Paths as Paths
 use Rattle.route.specs.Claims.{BestFrom, Rising}
 use Rattle.cuts.specs.Blocks as Blocks
 use Rattle.cuts.specs.Blocks.{blocksOf}
-use Rattle.cuts.specs.Edges.{walksOf, edges, stopped, edgesWithin}
-use Rattle.cuts.specs.Tokens.{span, anyOf, heldBetween}
+use Rattle.cuts.specs.Edges.{vocabularyOf, walksOf, edges, stopped, edgesWithin}
+use Rattle.cuts.specs.Tokens.{span, cutRoute, anyOf, heldBetween, searched, Written}
+use Rattle.cuts.specs.Cuts.{answer, Base, putSpans, cutBlock, searchBlock}
+use Rattle.cuts.specs.Slices.{blockOf}
 
 -- ---- the words of a block
 
@@ -66,11 +68,21 @@ pub record WalksMeet (b : Book) (cs : List ℕ) (rows : List (List Word)) : Type
   pub walks : walksOf (wordsFrom b) 0 cs ≡ map met (edgesOf rows)
   pub within : (room : ℕ) → edgesWithin room (walksOf (wordsFrom b) 0 cs) ≡ cond (leb (wordCount rows) room) (edges (edgesOf rows)) (stopped EdgesFull)
 
+-- so `cut` and `cut_for_search` of the block go by the route through these very rows: the tokens along it, or 10
+pub record GoesByRows (b : Book) (cs : List ℕ) (rows : List (List Word)) : Type 0 where
+  pub cut : (room : ℕ) (base : Base) (w : Written)
+      → cutBlock (vocabularyOf b) room base (blockOf true cs) w
+      ≡ cond (leb (wordCount rows) room) (putSpans base cs w (cutRoute cs (routeOf (logFloat (b .head .total)) 0 (edgesOf rows)))) (answer EdgesFull w)
+  pub cut-for-search : (room : ℕ) (base : Base) (w : Written)
+      → searchBlock (vocabularyOf b) room base (blockOf true cs) w
+      ≡ cond (leb (wordCount rows) room) (putSpans base cs w (searched cs (edgesOf rows) (cutRoute cs (routeOf (logFloat (b .head .total)) 0 (edgesOf rows))))) (answer EdgesFull w)
+
 -- the words that a cut of the block goes by
 pub record BlockWords (b : Book) (ledger : List Entry) (cs : List ℕ) : Type 0 where
   pub rows : List (List Word)
   pub held : HeldRows ledger cs rows
   pub meets : WalksMeet b cs rows
+  pub goes-by : GoesByRows b cs rows
 
 -- ---- the best route
 

@@ -1,4 +1,2 @@
--- What is proved of `cut`: a block by its parts, and a sentence by its blocks.
-pub mod Blocks
-pub mod Sentences
-pub mod Wholes
+-- What is proved of `cut` and `cut_for_search`.
+pub mod Modes

@@ -10,22 +10,23 @@ use mathlib.Core.Path.{_≡_, refl, _∙_}
 use native.Mathlib.Omega.{arith}
 use lib.IntN.{ℤ}
 use lib.ListN.{length, take}
+use Rattle.trie.specs.Trie.{trieOf}
 use Rattle.utf8.specs.Text.{charsOf, charsFrom}
 use Rattle.walk.proofs.Characters.{chars-start}
 use Rattle.classes.specs.Blocks.{cutAllClass}
 use Rattle.book.specs.declared.Outcome.the-variants.{Done}
-use Rattle.book.specs.Returns.{Book, numberOf}
+use Rattle.book.specs.Returns.{Book, isDone, longestText}
 use Rattle.book.specs.Prefixes.{wordsFrom}
 use Rattle.cuts.specs.declared.Cut.{Cut}
 use Rattle.cuts.specs.Blocks.{blocksOf}
-use Rattle.cuts.specs.Slices.{SeenAs, baseAt, blockOf, Offsets}
+use Rattle.cuts.specs.Slices.{SeenAs, blockOf, Placed}
 use Rattle.cuts.specs.Edges.{vocabularyOf, walksOf}
 use Rattle.cuts.specs.Tokens.{runsOf, written}
-use Rattle.cuts.specs.Cuts.{CutAnswer, answer, cutAnswer, putSpans, putWalks, cutAllBlock, cutBlocks, start}
+use Rattle.cuts.specs.Cuts.{CutAnswer, answer, cutAnswer, Base, putSpans, putWalks, cutAllBlock, cutBlocks, start}
 use Rattle.splitter.specs.declared.CharacterClass.the-variants.{CutAll}
 use Rattle.splitter.specs.declared.Run.{Run}
 use Rattle.splitter.specs.Runs.{classOf, textFrom, Recorded}
-use Rattle.splitter.proofs.Sentences.{text-bytes, block-stops, block-goes-on, no-block-left}
+use Rattle.splitter.proofs.Sentences.{text-bytes, baseAt, placed, block-stops, block-goes-on, no-block-left}
 
 -- the class by which `cut_all` splits
 of-cut-all : (s : List ℕ) (at : ℕ) (r : Run) (chars offsets : List ℕ) → Recorded (classOf CutAll) s at r chars offsets → Recorded cutAllClass s at r chars offsets
@@ -45,7 +46,7 @@ pub record Cutting (rootChildren : List ℕ) (rootWords : List ℤ) (keys childr
   pub offsets-long : length offsets ≡ length offsets₀
   pub tokens-long : length tokens ≡ length tokens₀
   pub same : (b : Book)
-      → SeenAs b rootChildren rootWords keys children words used
+      → SeenAs b (trieOf rootChildren rootWords keys children words) used
       → cutBlocks (cutAllBlock (vocabularyOf b)) (baseAt base at) (blocksOf cutAllClass (textFrom s at)) (written count tokens)
       ≡ cutBlocks (cutAllBlock (vocabularyOf b)) start (blocksOf cutAllClass (textFrom s 0)) (written 0 tokens₀)
 
@@ -69,7 +70,7 @@ pub record BlockCut (rootChildren : List ℕ) (rootWords : List ℤ) (keys child
     (base at : ℕ) (matched : Bool) (cs tokens : List ℕ) (count : ℕ) (cut : Cut) (after : List ℕ) : Type 0 where
   pub kept : length after ≡ length tokens
   pub same : (b : Book)
-      → SeenAs b rootChildren rootWords keys children words used
+      → SeenAs b (trieOf rootChildren rootWords keys children words) used
       → cutAnswer cut after ≡ cutAllBlock (vocabularyOf b) (baseAt base at) (blockOf matched cs) (written count tokens)
 
 -- what the call answered is what the code goes on with
@@ -85,7 +86,7 @@ module _ {rootChildren : List ℕ} {rootWords : List ℤ} {keys children : List 
     {chars offsets tokens : List ℕ} {at base count : ℕ}
     (here : Cutting rootChildren rootWords keys children words used s chars₀ offsets₀ tokens₀ chars offsets tokens at base count) where
   abbrev Seen : Book → Type 0
-  Seen b = SeenAs b rootChildren rootWords keys children words used
+  Seen b = SeenAs b (trieOf rootChildren rootWords keys children words) used
 
   -- what the function ensures, where it ends with this answer
   abbrev Ensured : CutAnswer → Type 0
@@ -108,40 +109,44 @@ module _ {rootChildren : List ℕ} {rootWords : List ℤ} {keys children : List 
     abbrev cs : List ℕ
     cs = take (r .chars) chars′
 
+    -- and where it stands
+    stands : Placed (baseAt base at) base cs offsets′
+    stands = placed (classOf CutAll) s at r chars′ offsets′ run base
+
     pub run-in-offsets : length (textFrom s 0) < length offsets₀ → length offsets′ ≡ length offsets → r .chars < length offsets′
     run-in-offsets room kept = omega (arith, run .counted, here .counted, here .offsets-long)
 
-    pub run-in-text : length s ≤ 16777215 → base + r .chars ≤ 16777215
+    pub run-in-text : length s ≤ longestText → base + r .chars ≤ longestText
     run-in-text short = omega (arith, run .counted, here .counted, text-bytes s)
 
     -- `cut_all_tokens` has cut it, if it is of the class
     pub matched-cut : {cut : Cut} {after : List ℕ}
         → r .matched ≡ true
         → length after ≡ length tokens
-        → ((b : Book) (bytes : ℕ) → Seen b → Offsets bytes cs offsets′
-        → cutAnswer cut after ≡ putWalks (baseAt base bytes) cs 0 (written count tokens) (walksOf (wordsFrom b) 0 cs))
+        → ((b : Book) (place : Base) → Seen b → Placed place base cs offsets′
+        → cutAnswer cut after ≡ putWalks place cs 0 (written count tokens) (walksOf (wordsFrom b) 0 cs))
         → BlockCut rootChildren rootWords keys children words used base at (r .matched) cs tokens count cut after
     unfolding cutAllBlock
-    matched-cut matched kept walked = record { kept = kept; same = λ b seen. rw matched (walked b at seen (run .offset)) }
+    matched-cut matched kept walked = record { kept = kept; same = λ b seen. rw matched (walked b (baseAt base at) seen stands) }
 
     -- and `cut_all_unmatched`, if it is not
     pub unmatched-cut : {cut : Cut} {after : List ℕ}
         → r .matched ≡ false
         → length after ≡ length tokens
-        → ((bytes : ℕ) → Offsets bytes cs offsets′ → cutAnswer cut after ≡ putSpans (baseAt base bytes) cs (written count tokens) (runsOf cs))
+        → ((place : Base) → Placed place base cs offsets′ → cutAnswer cut after ≡ putSpans place cs (written count tokens) (runsOf cs))
         → BlockCut rootChildren rootWords keys children words used base at (r .matched) cs tokens count cut after
     unfolding cutAllBlock
-    unmatched-cut unmatched kept spans = record { kept = kept; same = λ b seen. rw unmatched (spans at (run .offset)) }
+    unmatched-cut unmatched kept spans = record { kept = kept; same = λ b seen. rw unmatched (spans (baseAt base at) stands) }
 
     module _ {cut : Cut} {after : List ℕ} (block : BlockCut rootChildren rootWords keys children words used base at (r .matched) cs tokens count cut after) where
       -- the block is stopped
-      pub ends-stopped : (numberOf (cut .outcome) ≡ 0 → ⊥) → Ensured (cutAnswer cut after)
+      pub ends-stopped : isDone (cut .outcome) ≡ false → Ensured (cutAnswer cut after)
       ends-stopped other b seen =
           block-stops cutAllClass s at r chars′ offsets′ (of-cut-all s at r chars′ offsets′ run) (cutAllBlock (vocabularyOf b)) base (written count tokens) (cutAnswer cut after) (block .same b seen) other
           ∙ here .same b seen
 
       -- its tokens are written
-      pub goes-behind : numberOf (cut .outcome) ≡ 0
+      pub goes-behind : isDone (cut .outcome) ≡ true
           → length chars′ ≡ length chars
           → length offsets′ ≡ length offsets
           → Cutting rootChildren rootWords keys children words used s chars₀ offsets₀ tokens₀ chars′ offsets′ after (r .end) (base + r .chars) (cut .count)

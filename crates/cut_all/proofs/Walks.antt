@@ -5,7 +5,7 @@
 -- Assumes nothing.
 use Prim.Native.Nat.{ℕ, _+_, _≤_, _<_}
 use mathlib.Core.List.{List, [], _∷_}
-use mathlib.Core.Bool.{cond}
+use mathlib.Core.Bool.{true, false, cond}
 use mathlib.Core.Path.{_≡_, refl, sym, ap, _∙_}
 use native.Mathlib.Nat.{le-refl}
 use native.Mathlib.Numerals.{add-one}
@@ -24,10 +24,10 @@ use Rattle.walk.specs.Walk.{Inside}
 use Rattle.walk.proofs.Places.{starts-inside, leads-tested}
 use Rattle.book.specs.declared.Outcome.the-variants.{Done}
 use Rattle.book.specs.declared.Outcome.the-variants as Outcome
-use Rattle.book.specs.Returns.{Book, numberOf}
+use Rattle.book.specs.Returns.{Book, isDone}
 use Rattle.book.specs.Prefixes.{Edge, Walked, ended, broken, metBefore, walkOn, wordsFrom}
 use Rattle.cuts.specs.declared.Cut.{Cut}
-use Rattle.cuts.specs.Slices.{SeenAs, baseAt, Offsets}
+use Rattle.cuts.specs.Slices.{SeenAs, Placed}
 use Rattle.cuts.specs.Tokens.{span, Written, written}
 use Rattle.cuts.specs.Cuts.{CutAnswer, answer, cutAnswer, andThen, Base, putSpans, spansOf}
 use Rattle.cuts.proofs.Sequence.{goes-on, stops, then-after, put-then}
@@ -85,18 +85,18 @@ module _ (b : Book) (p : ParentRef) (next : ℕ) (cs : List ℕ) where
 -- ---- the loop
 
 -- where it stands: at a place, before a character, with so many tokens written. What the walk on from there meets, put after them, comes to what the walk
--- from `at` comes to, in each book that has these tables, and at whatever byte the block starts
+-- from `at` comes to, in each book that has these tables, and wherever the block stands
 pub record Walking (rootChildren : List ℕ) (rootWords : List ℤ) (keys children : List ℕ) (words : List ℤ) (used : ℕ) (chars offsets : List ℕ)
     (n at base : ℕ) (tokens₀ : List ℕ) (count₀ : ℕ) (tokens : List ℕ) (count : ℕ) (place : ParentRef) (next : ℕ) : Type 0 where
   pub first : at ≤ next
   pub last : next ≤ n
   pub inside : Inside (length rootChildren) (length keys) place
   pub long : length tokens ≡ length tokens₀
-  pub same : (b : Book) (bytes : ℕ)
-      → SeenAs b rootChildren rootWords keys children words used
-      → Offsets bytes (take n chars) offsets
-      → putWalk (baseAt base bytes) (take n chars) at (written count tokens) (walkOn b place next (drop next (take n chars)))
-      ≡ putWalk (baseAt base bytes) (take n chars) at (written count₀ tokens₀) (wordsFrom b at (drop at (take n chars)))
+  pub same : (b : Book) (site : Base)
+      → SeenAs b (trieOf rootChildren rootWords keys children words) used
+      → Placed site base (take n chars) offsets
+      → putWalk site (take n chars) at (written count tokens) (walkOn b place next (drop next (take n chars)))
+      ≡ putWalk site (take n chars) at (written count₀ tokens₀) (wordsFrom b at (drop at (take n chars)))
 
 -- at the root, before the first character
 pub begins : (rootChildren : List ℕ) (rootWords : List ℤ) (keys children : List ℕ) (words : List ℤ) (used : ℕ) (chars offsets : List ℕ)
@@ -110,7 +110,7 @@ begins rootChildren rootWords keys children words used chars offsets n at base t
       last = omega arith;
       inside = starts-inside _ _;
       long = refl;
-      same = λ b bytes seen known. refl;
+      same = λ b site seen known. refl;
     }
 
 module _ {rootChildren : List ℕ} {rootWords : List ℤ} {keys children : List ℕ} {words : List ℤ} {used : ℕ} {chars offsets : List ℕ}
@@ -121,7 +121,7 @@ module _ {rootChildren : List ℕ} {rootWords : List ℤ} {keys children : List 
   tables = trieOf rootChildren rootWords keys children words
 
   abbrev Seen : Book → Type 0
-  Seen b = SeenAs b rootChildren rootWords keys children words used
+  Seen b = SeenAs b (trieOf rootChildren rootWords keys children words) used
 
   -- the block's characters
   abbrev cs : List ℕ
@@ -132,27 +132,27 @@ module _ {rootChildren : List ℕ} {rootWords : List ℤ} {keys children : List 
 
   -- what the function ensures, where it ends with this answer
   abbrev Ensured : CutAnswer → Type 0
-  Ensured a = (b : Book) (bytes : ℕ) → Seen b → Offsets bytes cs offsets → a ≡ putWalk (baseAt base bytes) cs at (written count₀ tokens₀) (wordsFrom b at (drop at cs))
+  Ensured a = (b : Book) (site : Base) → Seen b → Placed site base cs offsets → a ≡ putWalk site cs at (written count₀ tokens₀) (wordsFrom b at (drop at cs))
 
   -- what the whole walk comes to, by what the walk on from here meets
-  comes-to : (b : Book) (bytes : ℕ)
+  comes-to : (b : Book) (site : Base)
       → Seen b
-      → Offsets bytes cs offsets
+      → Placed site base cs offsets
       → (walk : Walked)
       → walkOn b place next (drop next cs) ≡ walk
-      → putWalk (baseAt base bytes) cs at (written count tokens) walk ≡ putWalk (baseAt base bytes) cs at (written count₀ tokens₀) (wordsFrom b at (drop at cs))
-  comes-to b bytes seen known walk e =
-      ap (putWalk (baseAt base bytes) cs at (written count tokens)) (sym e) ∙ here .same b bytes seen known
+      → putWalk site cs at (written count tokens) walk ≡ putWalk site cs at (written count₀ tokens₀) (wordsFrom b at (drop at cs))
+  comes-to b site seen known walk e =
+      ap (putWalk site cs at (written count tokens)) (sym e) ∙ here .same b site seen known
 
   -- nothing more is met
   by-end : ((b : Book) → Seen b → walkOn b place next (drop next cs) ≡ ended) → Ensured (answer Done (written count tokens))
-  by-end e b bytes seen known =
-      sym (put-ended (baseAt base bytes) cs at (written count tokens)) ∙ comes-to b bytes seen known ended (e b seen)
+  by-end e b site seen known =
+      sym (put-ended site cs at (written count tokens)) ∙ comes-to b site seen known ended (e b seen)
 
   -- damage is next
   by-damage : ((b : Book) → Seen b → walkOn b place next (drop next cs) ≡ broken) → Ensured (answer Outcome.Damaged (written count tokens))
-  by-damage e b bytes seen known =
-      sym (put-broken (baseAt base bytes) cs at (written count tokens)) ∙ comes-to b bytes seen known broken (e b seen)
+  by-damage e b site seen known =
+      sym (put-broken site cs at (written count tokens)) ∙ comes-to b site seen known broken (e b seen)
 
   -- the block ends
   pub ends-here : n ≤ next → Ensured (answer Done (written count tokens))
@@ -168,7 +168,7 @@ module _ {rootChildren : List ℕ} {rootWords : List ℤ} {keys children : List 
     in-cs = omega (arith, cs-long)
 
     step-in : (b : Book) → Seen b → r ≡ testedStep (b .trie) place (getD chars next 0)
-    step-in b seen = step rootWords words ∙ ap (λ (t : CharTrie). testedStep t place (getD chars next 0)) (sym (seen .trie))
+    step-in b seen = step rootWords words ∙ ap (λ (t : CharTrie). testedStep t place (getD chars next 0)) (sym (seen .same-trie))
 
     -- no step leads on
     pub ends-nothing : r ≡ Nothing → Ensured (answer Done (written count tokens))
@@ -187,7 +187,7 @@ module _ {rootChildren : List ℕ} {rootWords : List ℤ} {keys children : List 
       module _ {number : WordNumber}
           (read : (rootChildren′ keys′ children′ : List ℕ) → number ≡ wordAt used (trieOf rootChildren′ rootWords keys′ children′ words) q) where
         read-in : (b : Book) → Seen b → number ≡ wordAt (b .head .records) (b .trie) q
-        read-in b seen = read rootChildren keys children ∙ rw (seen .trie, seen .records)
+        read-in b seen = read rootChildren keys children ∙ rw (seen .same-trie, seen .records)
 
         word-in : (b : Book) → Seen b → walkOn b place next (drop next cs) ≡ metBefore b number (next + 1) (walkOn b q (next + 1) (drop (next + 1) cs))
         word-in b seen = on-word b place next cs _ in-cs char r (step-in b seen) q stepped number (read-in b seen)
@@ -206,35 +206,35 @@ module _ {rootChildren : List ℕ} {rootWords : List ℤ} {keys children : List 
               last = omega arith;
               inside = next-inside allowed;
               long = here .long;
-              same = λ b bytes seen known. comes-to b bytes seen known _ (rw e at (word-in b seen));
+              same = λ b site seen known. comes-to b site seen known _ (rw e at (word-in b seen));
             }
 
         -- a word ends there, and `emit_span` answers its token with `put`
         module _ {k : ℕ} (word : number ≡ Record k) (put : Cut) (after : List ℕ)
-            (emitted : (bytes : ℕ) (chars′ : List ℕ) → Offsets bytes chars′ offsets → next + 1 ≤ length chars′
-            → cutAnswer put after ≡ putSpans (baseAt base bytes) chars′ (written count tokens) (span at (next + 1) ∷ [])) where
+            (emitted : (site : Base) (chars′ : List ℕ) → Placed site base chars′ offsets → next + 1 ≤ length chars′
+            → cutAnswer put after ≡ putSpans site chars′ (written count tokens) (span at (next + 1) ∷ [])) where
           -- what the walk on from the word's place meets
           abbrev rest : Book → Walked
           rest b = walkOn b q (next + 1) (drop (next + 1) cs)
 
-          with-rest : (b : Book) (bytes : ℕ)
+          with-rest : (b : Book) (site : Base)
               → Seen b
-              → Offsets bytes cs offsets
-              → andThen (cutAnswer put after) (λ v. putWalk (baseAt base bytes) cs at v (rest b))
-              ≡ putWalk (baseAt base bytes) cs at (written count₀ tokens₀) (wordsFrom b at (drop at cs))
-          with-rest b bytes seen known =
-              ap (λ (a : CutAnswer). andThen a (λ v. putWalk (baseAt base bytes) cs at v (rest b))) (emitted bytes cs known (omega (arith, in-cs)))
-              ∙ sym (put-met (baseAt base bytes) cs at (written count tokens) _ (rest b))
-              ∙ comes-to b bytes seen known _ (rw word at (word-in b seen))
+              → Placed site base cs offsets
+              → andThen (cutAnswer put after) (λ v. putWalk site cs at v (rest b))
+              ≡ putWalk site cs at (written count₀ tokens₀) (wordsFrom b at (drop at cs))
+          with-rest b site seen known =
+              ap (λ (a : CutAnswer). andThen a (λ v. putWalk site cs at v (rest b))) (emitted site cs known (omega (arith, in-cs)))
+              ∙ sym (put-met site cs at (written count tokens) _ (rest b))
+              ∙ comes-to b site seen known _ (rw word at (word-in b seen))
 
           -- the token finds no place
-          pub ends-full : (numberOf (put .outcome) ≡ 0 → ⊥) → Ensured (cutAnswer put after)
-          ends-full other b bytes seen known =
-              sym (stops (cutAnswer put after) (λ v. putWalk (baseAt base bytes) cs at v (rest b)) other) ∙ with-rest b bytes seen known
+          pub ends-full : isDone (put .outcome) ≡ false → Ensured (cutAnswer put after)
+          ends-full other b site seen known =
+              sym (stops (cutAnswer put after) (λ v. putWalk site cs at v (rest b)) other) ∙ with-rest b site seen known
 
           -- the token is written
           pub goes-behind : SlotCount (length keys)
-              → numberOf (put .outcome) ≡ 0
+              → isDone (put .outcome) ≡ true
               → length after ≡ length tokens
               → Walking rootChildren rootWords keys children words used chars offsets n at base tokens₀ count₀ after (put .count) q (next + 1)
           goes-behind allowed done kept =
@@ -243,6 +243,6 @@ module _ {rootChildren : List ℕ} {rootWords : List ℤ} {keys children : List 
                 last = omega arith;
                 inside = next-inside allowed;
                 long = kept ∙ here .long;
-                same = λ b bytes seen known.
-                    sym (goes-on (cutAnswer put after) (λ v. putWalk (baseAt base bytes) cs at v (rest b)) done) ∙ with-rest b bytes seen known;
+                same = λ b site seen known.
+                    sym (goes-on (cutAnswer put after) (λ v. putWalk site cs at v (rest b)) done) ∙ with-rest b site seen known;
               }

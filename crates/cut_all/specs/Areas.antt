@@ -3,8 +3,10 @@
 use Prim.Native.Nat.{ℕ}
 use mathlib.Core.Bool.{cond}
 use mathlib.Core.List.{List, [], _∷_}
-use mathlib.Core.Path.{_≡_}
 use lib.ListN.{length}
+use denote.Ref.{RefT}
+use denote.Triple.Both.{Both}
+use Rattle.trie.specs.Lent.{was}
 use Rattle.book.specs.declared.Outcome.the-variants.{Done, Damaged}
 use Rattle.book.specs.Prefixes.{Walked}
 use Rattle.cuts.specs.Slices.{shortest}
@@ -20,7 +22,6 @@ putWalk base chars at w walk =
 abbrev pub workOf : List ℕ → List ℕ → ℕ
 workOf chars offsets = shortest (length chars) (length offsets ∷ [])
 
--- the work area is as it was
-pub record Unchanged (chars chars₀ offsets offsets₀ : List ℕ) : Type 0 where
-  pub same-chars : chars ≡ chars₀
-  pub same-offsets : offsets ≡ offsets₀
+-- the same of the slices as they are lent
+abbrev pub workLent : {A B : Type 0} → Both (RefT (List ℕ)) A → Both (RefT (List ℕ)) B → ℕ
+workLent chars offsets = workOf (was chars) (was offsets)

@@ -6,22 +6,23 @@
 ghost use mathlib.Core.Path.{_≡_};
 ghost use mathlib.Core.Bool.{false};
 ghost use mathlib.Core.Option.{IsSome};
-ghost use Prim.Native.Nat.{ℕ, _+_, _-_, _≤_, _<_};
+ghost use Prim.Native.Nat.{_+_, _-_, _≤_, _<_};
 ghost use lib.ListN.{length, take, drop};
-ghost use Rattle.trie.specs.Trie.{SlotCount, log2, trieOf};
+ghost use Rattle.trie.specs.Trie.{SlotCount, log2};
+ghost use Rattle.trie.specs.Lent.{was, became, trieLent};
 ghost use Rattle.walk.specs.Walk.{EquallyLong};
 ghost use Rattle.utf8.specs.Text.{charsOf};
-ghost use Rattle.book.specs.Returns.{Book};
+ghost use Rattle.book.specs.Returns.{Book, longestText};
 ghost use Rattle.book.specs.Prefixes.{wordsFrom};
-ghost use Rattle.book.specs.Areas.{bookOf};
+ghost use Rattle.book.specs.Areas.{bookLent};
 ghost use Rattle.classes.specs.Blocks.{cutAllClass};
-ghost use Rattle.cuts.specs.Slices.{SeenAs, baseAt, Characters, Offsets};
+ghost use Rattle.cuts.specs.Slices.{Unchanged, SeenAs, Characters, Placed};
 ghost use Rattle.cuts.specs.Blocks.{blocksOf};
 ghost use Rattle.cuts.specs.Edges.{vocabularyOf, walksOf};
 ghost use Rattle.cuts.specs.Tokens.{written};
-ghost use Rattle.cuts.specs.Cuts.{cutAnswer, putWalks, cutAllBlock, cutBlocks, start, testedBook, begins, cutAllOf};
+ghost use Rattle.cuts.specs.Cuts.{cutAnswer, Base, putWalks, cutAllBlock, cutBlocks, start, testedBook, begins, cutAllOf};
 ghost use Rattle.splitter.specs.Runs.{textFrom};
-ghost use Rattle.cut_all.specs.Areas.{putWalk, workOf, Unchanged};
+ghost use Rattle.cut_all.specs.Areas.{putWalk, workLent};
 use book::Head;
 use book::Outcome;
 use cuts::Cut;
@@ -49,10 +50,10 @@ fn words_at(
 ) -> Cut
     requires { ⌜ EquallyLong (now «root_children») (now «root_words») (now keys) (now children) (now words) ⌝ }
     requires { ⌜ SlotCount (length (now keys)) × (shift ≡ 64 - log2 (length (now keys))) ⌝ }
-    requires { ⌜ (at < n) × (n ≤ length (now chars)) × (n < length (now offsets)) × Characters n (now chars) × (base + n ≤ 16777215) ⌝ }
-    ensures { λ r. ⌜ ((b : Book) (bytes : ℕ) → SeenAs b (now («root_children» .entry)) (now («root_words» .entry)) (now (keys .entry)) (now (children .entry)) (now (words .entry)) used
-        → Offsets bytes (take n (now (chars .entry))) (now (offsets .entry))
-        → cutAnswer r (now (tokens .exit)) ≡ putWalk (baseAt base bytes) (take n (now (chars .entry))) at (written count (now (tokens .entry))) (wordsFrom b at (drop at (take n (now (chars .entry)))))) ⌝ }
+    requires { ⌜ (at < n) × (n ≤ length (now chars)) × (n < length (now offsets)) × Characters n (now chars) × (base + n ≤ longestText) ⌝ }
+    ensures { λ r. ⌜ ((b : Book) (place : Base) → SeenAs b (trieLent «root_children» «root_words» keys children words) used
+        → Placed place base (take n (was chars)) (was offsets)
+        → cutAnswer r (became tokens) ≡ putWalk place (take n (was chars)) at (written count (was tokens)) (wordsFrom b at (drop at (take n (was chars))))) ⌝ }
 {
     let mut count = count;
     let mut place = ParentRef::Root;
@@ -82,7 +83,7 @@ fn words_at(
                 let put = tokens::emit_span(offsets, base, at, next, tokens, count);
                 let outcome = put.outcome;
                 count = put.count;
-                if book::number_of(outcome) != 0 {
+                if !book::is_done(outcome) {
                     return Cut { outcome, count };
                 }
             }
@@ -118,10 +119,10 @@ fn cut_all_tokens(
 ) -> Cut
     requires { ⌜ EquallyLong (now «root_children») (now «root_words») (now keys) (now children) (now words) ⌝ }
     requires { ⌜ SlotCount (length (now keys)) × (shift ≡ 64 - log2 (length (now keys))) ⌝ }
-    requires { ⌜ (n ≤ length (now chars)) × (n < length (now offsets)) × Characters n (now chars) × (base + n ≤ 16777215) ⌝ }
-    ensures { λ r. ⌜ ((b : Book) (bytes : ℕ) → SeenAs b (now («root_children» .entry)) (now («root_words» .entry)) (now (keys .entry)) (now (children .entry)) (now (words .entry)) used
-        → Offsets bytes (take n (now (chars .entry))) (now (offsets .entry))
-        → cutAnswer r (now (tokens .exit)) ≡ putWalks (baseAt base bytes) (take n (now (chars .entry))) 0 (written count (now (tokens .entry))) (walksOf (wordsFrom b) 0 (take n (now (chars .entry))))) ⌝ }
+    requires { ⌜ (n ≤ length (now chars)) × (n < length (now offsets)) × Characters n (now chars) × (base + n ≤ longestText) ⌝ }
+    ensures { λ r. ⌜ ((b : Book) (place : Base) → SeenAs b (trieLent «root_children» «root_words» keys children words) used
+        → Placed place base (take n (was chars)) (was offsets)
+        → cutAnswer r (became tokens) ≡ putWalks place (take n (was chars)) 0 (written count (was tokens)) (walksOf (wordsFrom b) 0 (take n (was chars)))) ⌝ }
 {
     let mut count = count;
     let mut at: usize = 0;
@@ -144,7 +145,7 @@ fn cut_all_tokens(
         );
         let outcome = put.outcome;
         count = put.count;
-        if book::number_of(outcome) != 0 {
+        if !book::is_done(outcome) {
             return Cut { outcome, count };
         }
         at += 1;
@@ -171,10 +172,10 @@ fn cut_all_blocks(
 ) -> Cut
     requires { ⌜ EquallyLong (now «root_children») (now «root_words») (now keys) (now children) (now words) ⌝ }
     requires { ⌜ SlotCount (length (now keys)) × (shift ≡ 64 - log2 (length (now keys))) ⌝ }
-    requires { ⌜ (length (now sentence) ≤ 16777215) × IsSome (charsOf (now sentence)) ⌝ }
+    requires { ⌜ (length (now sentence) ≤ longestText) × IsSome (charsOf (now sentence)) ⌝ }
     requires { ⌜ (length (textFrom (now sentence) 0) < length (now chars)) × (length (textFrom (now sentence) 0) < length (now offsets)) ⌝ }
-    ensures { λ r. ⌜ ((b : Book) → SeenAs b (now («root_children» .entry)) (now («root_words» .entry)) (now (keys .entry)) (now (children .entry)) (now (words .entry)) used
-        → cutAnswer r (now (tokens .exit)) ≡ cutBlocks (cutAllBlock (vocabularyOf b)) start (blocksOf cutAllClass (textFrom (now (sentence .entry)) 0)) (written 0 (now (tokens .entry)))) ⌝ }
+    ensures { λ r. ⌜ ((b : Book) → SeenAs b (trieLent «root_children» «root_words» keys children words) used
+        → cutAnswer r (became tokens) ≡ cutBlocks (cutAllBlock (vocabularyOf b)) start (blocksOf cutAllClass (textFrom (was sentence) 0)) (written 0 (was tokens))) ⌝ }
 {
     let mut at: usize = 0;
     let mut base: u32 = 0;
@@ -203,7 +204,7 @@ fn cut_all_blocks(
         };
         let outcome = cut.outcome;
         count = cut.count;
-        if book::number_of(outcome) != 0 {
+        if !book::is_done(outcome) {
             return Cut { outcome, count };
         }
         base += n as u32;
@@ -230,11 +231,11 @@ pub fn cut_all(
     offsets: &mut [u32],
     tokens: &mut [u32],
 ) -> Cut
-    ensures { λ r. ⌜ cutAnswer r (now (tokens .exit)) ≡ cutAllOf (bookOf head (trieOf (now («root_children» .entry)) (now («root_words» .entry)) (now (keys .entry)) (now (children .entry)) (now (words .entry))) (now (frequencies .entry)) (now (logarithms .entry)))
-        (workOf (now (chars .entry)) (now (offsets .entry))) (now (tokens .entry)) (now (sentence .entry)) ⌝ }
-    ensures { λ _. ⌜ (begins (testedBook (bookOf head (trieOf (now («root_children» .entry)) (now («root_words» .entry)) (now (keys .entry)) (now (children .entry)) (now (words .entry))) (now (frequencies .entry)) (now (logarithms .entry))))
-        (workOf (now (chars .entry)) (now (offsets .entry))) (now (tokens .entry)) (now (sentence .entry)) ≡ false
-        → Unchanged (now (chars .exit)) (now (chars .entry)) (now (offsets .exit)) (now (offsets .entry))) ⌝ }
+    ensures { λ r. ⌜ cutAnswer r (became tokens) ≡ cutAllOf (bookLent head «root_children» «root_words» keys children words frequencies logarithms)
+        (workLent chars offsets) (was tokens) (was sentence) ⌝ }
+    ensures { λ _. ⌜ (begins (testedBook (bookLent head «root_children» «root_words» keys children words frequencies logarithms))
+        (workLent chars offsets) (was tokens) (was sentence) ≡ false
+        → Unchanged chars × Unchanged offsets) ⌝ }
 {
     let work = sentence::shorter(chars.len(), offsets.len());
     let tested = sentence::begin(
@@ -250,7 +251,7 @@ pub fn cut_all(
         work,
         tokens,
     );
-    if book::number_of(tested) != 0 {
+    if !book::is_done(tested) {
         return Cut {
             outcome: tested,
             count: 0,

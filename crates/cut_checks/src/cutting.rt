@@ -1,8 +1,9 @@
 // Cuts with a book, as a case says, and a line for each: the number, the tokens written, and the whole token area afterwards.
 //
 // The commands: `cut WORK EDGES TOKENS SENTENCE` lends a work area of six slices of that length, an edge area of two, and a token
-// area of so many numbers; `slices` takes a length for each of the nine slices. `all CHARS OFFSETS TOKENS SENTENCE` is `cut_all`,
-// whose work area is two slices. `head RECORDS SLOTS NEXT TOTAL` stores a head. The first letter tells them apart.
+// area of so many numbers; `find` is the same for search; `slices` takes a length for each of the nine slices. These three are
+// `tokenize` by one mode or the other. `all CHARS OFFSETS TOKENS SENTENCE` is `cut_all`, whose work area is two slices. `head RECORDS
+// SLOTS NEXT TOTAL` stores a head. The first letter tells them apart.
 //
 // What is lent holds sevens at first, so that the places that stay show. Where a cut does not begin, its line says whether the work
 // area and the edge area stayed too; once it has begun their content is free.
@@ -13,6 +14,7 @@ use crate::output::print_next;
 use crate::script;
 use book::Head;
 use cuts::Cut;
+use cuts::TokenizeMode;
 ghost use Prim.Native.Nat.{_≤_};
 
 // Whether a cut has not begun, by its number and the head: 8 is met before the cut only where the head is damaged.
@@ -67,8 +69,8 @@ fn print_answer(
     print_kept(has_not_begun(number, head, records, slots), name, unchanged);
 }
 
-// `cut`, and `slices` whose lengths stand apart, each in a field of its own.
-fn cut(
+// `cut` and `find`, and `slices` whose lengths stand apart, each in a field of its own.
+fn tokenize(
     head: Head,
     root_children: &[u32],
     root_words: &[i32],
@@ -79,6 +81,7 @@ fn cut(
     logarithms: &[f64],
     command: &[u8],
     apart: u64,
+    mode: TokenizeMode,
 )
     requires { ⌜ apart ≤ 1 ⌝ }
 {
@@ -101,7 +104,7 @@ fn cut(
     let mut edge_end_area = [7u32; 64];
     let mut edge_record_area = [7u32; 64];
     let mut token_area = [7u32; 256];
-    let answer = cut::cut(
+    let answer = tokenize::tokenize(
         head,
         root_children,
         root_words,
@@ -111,6 +114,7 @@ fn cut(
         frequencies,
         logarithms,
         &command[at..],
+        mode,
         &mut char_area[..chars],
         &mut offset_area[..offsets],
         &mut start_area[..starts],
@@ -219,7 +223,7 @@ fn turn(
         b'h' => {
             return stored_head(command);
         }
-        b's' => cut(
+        b's' => tokenize(
             head,
             root_children,
             root_words,
@@ -230,6 +234,20 @@ fn turn(
             logarithms,
             command,
             1,
+            TokenizeMode::Default,
+        ),
+        b'f' => tokenize(
+            head,
+            root_children,
+            root_words,
+            keys,
+            children,
+            words,
+            frequencies,
+            logarithms,
+            command,
+            0,
+            TokenizeMode::Search,
         ),
         b'a' => cut_all(
             head,
@@ -242,7 +260,7 @@ fn turn(
             logarithms,
             command,
         ),
-        _ => cut(
+        _ => tokenize(
             head,
             root_children,
             root_words,
@@ -253,6 +271,7 @@ fn turn(
             logarithms,
             command,
             0,
+            TokenizeMode::Default,
         ),
     }
     head

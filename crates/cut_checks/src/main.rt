@@ -1,7 +1,7 @@
-//! Executes `cut` and `cut_all` on books that calls built and on others, and prints for each cut its number, the tokens that it
+//! Executes `tokenize`, so `cut` and search, and `cut_all` on books that calls built and on others, and prints for each cut its number, the tokens that it
 //! wrote, and the whole token area afterwards.
 //!
-//! Document 01 fixes these answers, and the contracts of the two calls state them; here the compiled calls are run. The gate
+//! Document 01 fixes these answers, and the contracts of the calls state them; here the compiled calls are run. The gate
 //! compares the lines with `stdout`, which does not come from this program: tests/expected_cuts.py computes it from document 01,
 //! with a model of the book in plain lists. Proved here is only that the program is safe and ends. Number 2 is left out: a sentence
 //! over 16,777,215 bytes does not fit a program's stack, and neither do more than 4,194,304 slots or 1,048,576 records.
@@ -16,6 +16,7 @@ mod letters;
 mod output;
 mod refused;
 mod script;
+mod searching;
 mod stores;
 mod unbuilt;
 
@@ -30,4 +31,5 @@ fn main() {
     full::print_group();
     damaged::print_group();
     unbuilt::print_group();
+    searching::print_group();
 }

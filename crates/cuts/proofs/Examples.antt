@@ -29,8 +29,8 @@ use Rattle.cuts.specs.Examples.{StarredExamples, SearchExamples}
 
 pub starred-examples : StarredExamples
 unfolding charsOf charsWithin readFrom byteLength encode linesOf meaningOf fieldsOf pieces frequencyOf number whiteSpace inRanges cutClass han hanMain hanExtension asciiLetterOrDigit cutSign joins connector asciiLetter getOf walk wordAt wordNumber testedStep openStep bitsAt fromRoot nodeAt probeOf probeFrom nextSlot startSlot log2 keyOf filterHash keyBit childBit reach newSlots withBits withWord emptyFrom emptySlot extend insert slotCount hasBit withBit allowed headDamaged emptyBook lookupOf decide emptySlots replaced inserted loadLines loadOf wordsFrom walkOn logFloat L logOf highestOne significand nextBit nextSignificand bitsOf floatOf blocksOf walksOf edgesWithin choose routeOf stepsFrom piecesOf joined cutRoute singly runsOf parts partsOf wordsOfSize searched tokenOf putSpans putWalks cutBlock searchBlock cutAllBlock cutBlocks cutWith cutOf cutAllOf cutForSearchOf leadingZeros span climb size odd units round neg sum add sub lt eq ofInt whole
-starred-examples = (starred-logarithms, refl, refl, refl, refl, refl, refl, refl, refl, refl, refl)
+starred-examples = (starred-logarithms, refl, refl, refl, refl, refl, refl, refl, refl, refl, refl, refl, refl, refl, refl, refl, refl, refl)
 
 pub search-examples : SearchExamples
 unfolding charsOf charsWithin readFrom byteLength encode linesOf meaningOf fieldsOf pieces frequencyOf number whiteSpace inRanges cutClass han hanMain hanExtension asciiLetterOrDigit cutSign joins connector asciiLetter getOf walk wordAt wordNumber testedStep openStep bitsAt fromRoot nodeAt probeOf probeFrom nextSlot startSlot log2 keyOf filterHash keyBit childBit reach newSlots withBits withWord emptyFrom emptySlot extend insert slotCount hasBit withBit allowed headDamaged emptyBook lookupOf decide emptySlots replaced inserted loadLines loadOf wordsFrom walkOn logFloat L logOf highestOne significand nextBit nextSignificand bitsOf floatOf blocksOf walksOf edgesWithin choose routeOf stepsFrom piecesOf joined cutRoute singly runsOf parts partsOf wordsOfSize searched tokenOf putSpans putWalks cutBlock searchBlock cutAllBlock cutBlocks cutWith cutOf cutAllOf cutForSearchOf leadingZeros span climb size odd units round neg sum add sub lt eq ofInt whole
-search-examples = (refl, refl)
+search-examples = (refl, refl, refl, refl, refl, refl)

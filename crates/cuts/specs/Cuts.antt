@@ -37,20 +37,7 @@ cutAnswer r area = answer (r .outcome) (record { count = r .count; area = area }
 
 -- then, if nothing stopped it
 abbrev pub andThen : CutAnswer → (Written → CutAnswer) → CutAnswer
-andThen a next = elim (a .outcome) [
-  | Done ↦ next (a .written)
-  | BadAreas ↦ a
-  | TooLong ↦ a
-  | Malformed ↦ a
-  | Outcome.BadFrequency ↦ a
-  | Outcome.TotalTooLarge ↦ a
-  | Outcome.RecordsFull ↦ a
-  | Outcome.SlotsFull ↦ a
-  | Damaged ↦ a
-  | WorkTooShort ↦ a
-  | Outcome.EdgesFull ↦ a
-  | TokensFull ↦ a
-]
+andThen a next = elim (isDone (a .outcome)) [ true ↦ next (a .written) | false ↦ a ]
 
 -- ---- tokens into the area
 

@@ -1,5 +1,6 @@
--- Document 01's starred examples, as one statement. The first row is L's. Each other row starts at the empty book, loads a dictionary, cuts a sentence
--- into an area of as many places as there are tokens, and says each token's start and end in characters and in bytes.
+-- Document 01's starred examples, as one statement. The first row is L's. The next ones say that each dictionary is accepted, with its number of lines.
+-- Each other row starts at the empty book, loads a dictionary, cuts a sentence into an area of as many places as there are tokens, and says each token's
+-- start and end in characters and in bytes.
 -- Texts are bytes, with what they read above them. Proof: `proofs/Examples.antt`.
 -- Assumes nothing.
 use Prim.Native.Nat.{ℕ, _/_}
@@ -9,13 +10,20 @@ use lib.ListN.{length, replicate}
 use Rattle.score.specs.Logarithm.{StarredLogarithms}
 use Rattle.book.specs.declared.Outcome.the-variants.{Done}
 use Rattle.book.specs.Returns.{Book, emptyBook}
-use Rattle.book.specs.Enter.{loadOf}
+use Rattle.book.specs.Enter.{LoadAnswer, loadAnswer, loadOf}
 use Rattle.cuts.specs.Tokens.{tokenWidth}
 use Rattle.cuts.specs.Cuts.{CutAnswer, answer, cutOf, cutAllOf, cutForSearchOf}
 
--- the book that a dictionary's text makes of the empty one: 1 root entry, 64 slots, 16 records
+-- a dictionary's text is loaded into the empty book of 1 root entry, 64 slots and 16 records
+abbrev pub load : List ℕ → LoadAnswer
+load text = loadOf (emptyBook 1 64 16) text
+
 abbrev pub loaded : List ℕ → Book
-loaded text = loadOf (emptyBook 1 64 16) text .book
+loaded text = load text .book
+
+-- it is accepted: 0, and so many lines read
+abbrev pub Accepted : List ℕ → ℕ → Type 0
+Accepted text lines = load text ≡ loadAnswer Done lines (loaded text)
 
 -- 0, the tokens' count, and the token area: these numbers
 abbrev pub allTokens : List ℕ → CutAnswer
@@ -82,6 +90,8 @@ abbrev pub StarredExamples : Type 0
 StarredExamples =
     -- L: 0 minus infinity, 1: 0, 2: 16777216, 3: 26591258, 4294967295: 536870911
     StarredLogarithms
+    -- the dictionaries are accepted
+    × Accepted bookA 8 × Accepted tie 4 × Accepted noTie 4 × Accepted totalZero 2 × Accepted totalOne 3 × Accepted compounds 2 × Accepted [] 0
     -- A, 打开灯: 打开 灯
     × Cut bookA (230 ∷ 137 ∷ 147 ∷ 229 ∷ 188 ∷ 128 ∷ 231 ∷ 129 ∷ 175 ∷ []) (0 ∷ 2 ∷ 0 ∷ 6 ∷ 2 ∷ 3 ∷ 6 ∷ 9 ∷ [])
     -- A, 打开客厅灯: 打开 客厅灯
@@ -117,9 +127,20 @@ fourCharacters =
 abbrev pub parted : List ℕ
 parted = 97 ∷ 45 ∷ 98 ∷ 99 ∷ 95 ∷ 55 ∷ 46 ∷ 231 ∷ 148 ∷ 178 ∷ 97 ∷ 32 ∷ 49 ∷ 10 ∷ []
 
+-- ab-12_甲乙 9, b- 1, -12 1
+abbrev pub unlettered : List ℕ
+unlettered =
+    97 ∷ 98 ∷ 45 ∷ 49 ∷ 50 ∷ 95 ∷ 231 ∷ 148 ∷ 178 ∷ 228 ∷ 185 ∷ 153 ∷ 32 ∷ 57 ∷ 10 ∷
+    98 ∷ 45 ∷ 32 ∷ 49 ∷ 10 ∷
+    45 ∷ 49 ∷ 50 ∷ 32 ∷ 49 ∷ 10 ∷ []
+
 abbrev pub SearchExamples : Type 0
 SearchExamples =
+    -- the dictionaries are accepted
+    Accepted fourCharacters 4 × Accepted parted 1 × Accepted unlettered 3
     -- 甲乙丙丁: 甲乙, then 乙丙丁, then 甲乙丙丁
-    CutForSearch fourCharacters (231 ∷ 148 ∷ 178 ∷ 228 ∷ 185 ∷ 153 ∷ 228 ∷ 184 ∷ 153 ∷ 228 ∷ 184 ∷ 129 ∷ []) (0 ∷ 2 ∷ 0 ∷ 6 ∷ 1 ∷ 4 ∷ 3 ∷ 12 ∷ 0 ∷ 4 ∷ 0 ∷ 12 ∷ [])
+    × CutForSearch fourCharacters (231 ∷ 148 ∷ 178 ∷ 228 ∷ 185 ∷ 153 ∷ 228 ∷ 184 ∷ 153 ∷ 228 ∷ 184 ∷ 129 ∷ []) (0 ∷ 2 ∷ 0 ∷ 6 ∷ 1 ∷ 4 ∷ 3 ∷ 12 ∷ 0 ∷ 4 ∷ 0 ∷ 12 ∷ [])
     -- a-bc_7.甲a: bc and 甲a, of which a counts as a letter; a is one byte, 7 has no letter; then itself
     × CutForSearch parted (97 ∷ 45 ∷ 98 ∷ 99 ∷ 95 ∷ 55 ∷ 46 ∷ 231 ∷ 148 ∷ 178 ∷ 97 ∷ []) (2 ∷ 4 ∷ 2 ∷ 4 ∷ 7 ∷ 9 ∷ 7 ∷ 11 ∷ 0 ∷ 9 ∷ 0 ∷ 11 ∷ [])
+    -- ab-12_甲乙: ab alone of its parts, since 12 has digits and 甲乙 has Han; then the word of two characters b-, the word of three -12, and itself
+    × CutForSearch unlettered (97 ∷ 98 ∷ 45 ∷ 49 ∷ 50 ∷ 95 ∷ 231 ∷ 148 ∷ 178 ∷ 228 ∷ 185 ∷ 153 ∷ []) (0 ∷ 2 ∷ 0 ∷ 2 ∷ 1 ∷ 3 ∷ 1 ∷ 3 ∷ 2 ∷ 5 ∷ 2 ∷ 5 ∷ 0 ∷ 8 ∷ 0 ∷ 12 ∷ [])

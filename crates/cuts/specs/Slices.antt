@@ -1,14 +1,16 @@
--- The areas of a cut as slices: how long an area of several slices is, and a block in the slices that the code lends from one step of a cut to the next,
--- its characters and where each of them starts.
+-- The areas of a cut as slices: how long an area of several slices is, and that a slice is unchanged; and a block in the slices that the code lends from one
+-- step of a cut to the next, its characters and where each of them starts.
 -- Assumes nothing.
 use Prim.Native.Nat.{ℕ, _+_, _^_, _≤_, _<_}
 use mathlib.Core.Bool.{Bool, cond}
 use mathlib.Core.List.{List, [], _∷_}
 use mathlib.Core.Path.{_≡_}
 use lib.Dec.{ltb}
-use lib.IntN.{ℤ}
 use lib.ListN.{length, getD, take}
-use Rattle.trie.specs.Trie.{trieOf}
+use denote.Ref.{RefT}
+use denote.Triple.Both.{Both}
+use Rattle.trie.specs.Trie.{CharTrie}
+use Rattle.trie.specs.Lent.{was, became}
 use Rattle.book.specs.Returns.{Book}
 use Rattle.utf8.specs.Encoding.{byteLength}
 use Rattle.cuts.specs.Blocks.{Block}
@@ -22,14 +24,14 @@ abbrev pub shortest : ℕ → List ℕ → ℕ
 shortest a [] = a
 shortest a (b ∷ bs) = shortest (shorter a b) bs
 
--- what a walk is lent of a book: the trie, and how many records are used
-pub record SeenAs (b : Book) (rootChildren : List ℕ) (rootWords : List ℤ) (keys children : List ℕ) (words : List ℤ) (used : ℕ) : Type 0 where
-  pub trie : b .trie ≡ trieOf rootChildren rootWords keys children words
-  pub records : b .head .records ≡ used
+-- a lent slice is left as it was
+abbrev pub Unchanged : {X : Type 0} → Both (RefT X) (RefT X) → Type 0
+Unchanged s = became s ≡ was s
 
--- where a block starts: after so many characters and bytes
-abbrev pub baseAt : ℕ → ℕ → Base
-baseAt chars bytes = record { chars = chars; bytes = bytes }
+-- what a walk is lent of a book: the trie, and how many records are used
+pub record SeenAs (b : Book) (trie : CharTrie) (used : ℕ) : Type 0 where
+  pub same-trie : b .trie ≡ trie
+  pub records : b .head .records ≡ used
 
 abbrev pub blockOf : Bool → List ℕ → Block
 blockOf matched chars = record { matched = matched; chars = chars }
@@ -41,3 +43,8 @@ Characters n chars = (i : ℕ) → i < n → getD chars i 0 < 2 ^ 21
 -- a slice has the byte offsets of a block's characters, and of its end, where the block starts at the given byte
 abbrev pub Offsets : ℕ → List ℕ → List ℕ → Type 0
 Offsets bytes chars offsets = (i : ℕ) → i ≤ length chars → getD offsets i 0 ≡ bytes + byteLength (take i chars)
+
+-- where a block stands in the sentence, as the code has it: the number of characters before it, and the byte offsets of its own
+pub record Placed (at : Base) (base : ℕ) (chars offsets : List ℕ) : Type 0 where
+  pub after : at .chars ≡ base
+  pub from : Offsets (at .bytes) chars offsets

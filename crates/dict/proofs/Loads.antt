@@ -7,15 +7,15 @@ use mathlib.Core.List.{List}
 use Prim.Native.Nat.{ℕ, _+_, _-_, _<_, _≤_}
 use native.Mathlib.Nat.{le-of-lt}
 use native.Mathlib.Omega.{arith}
-use borrow.Author.Tests.{not-true, not-false, eq-eqb, ne-eqb, le-leb, lt-leb}
+use borrow.Author.Tests.{not-true, not-false, le-leb, lt-leb}
 use lib.ListN.{length, take, drop, length-take, length-drop}
 use Rattle.lines.specs.Lines.{linesOf, lineEnd}
 use Rattle.lines.proofs.Ends.{lines-at, lines-end, end-bounds}
 use Rattle.insert.specs.Claims.{SameLengths}
 use Rattle.insert.proofs.Lengths.{same-lengths, then-same}
 use Rattle.book.specs.declared.Outcome.the-variants.{Done, BadAreas, TooLong}
-use Rattle.book.specs.Returns.{Book, numberOf, sized, longestText}
-use Rattle.book.specs.Enter.{LoadAnswer, loadStops, loadLines, loadOf}
+use Rattle.book.specs.Returns.{Book, isDone, sized, longestText}
+use Rattle.book.specs.Enter.{LoadAnswer, loadAnswer, loadLines, loadOf}
 use Rattle.entry.specs.Texts.{EnterAnswer, enterLine}
 use Rattle.entry.proofs.Lines.{loadOn, load-line}
 use Rattle.dict.specs.Answers.{linesLoaded}
@@ -74,11 +74,11 @@ pub begins : (b : Book) (text : List ℕ) → Loading b text b 0 0
 begins b text = record { long = record { tables = same-lengths (b .trie); frequencies = refl; logarithms = refl }; same = refl; counted = omega arith; inside = omega arith }
 
 module _ {b₀ : Book} {text : List ℕ} {b : Book} {n at : ℕ} (turn : Loading b₀ text b n at) where
-  pub ends : length text ≤ at → loadStops Done n b ≡ linesLoaded b₀ 0 text 0
+  pub ends : length text ≤ at → loadAnswer Done n b ≡ linesLoaded b₀ 0 text 0
   unfolding linesLoaded loadLines
   ends h = all-read ∙ turn .same
     where
-      all-read : loadStops Done n b ≡ linesLoaded b n text at
+      all-read : loadAnswer Done n b ≡ linesLoaded b n text at
       all-read = rw (lines-end text at h)
 
   module _ (h : at < length text) {end : ℕ} (q : end ≡ lineEnd text at) where
@@ -95,11 +95,11 @@ module _ {b₀ : Book} {text : List ℕ} {b : Book} {n at : ℕ} (turn : Loading
           load-line b n (take (end - at) (drop at text)) (linesOf (drop (end + 1) text)) e f
           ∙ rw q (ap (loadLines b n) (sym (lines-at text at (le-of-lt h) h)))
 
-      module _ {number : ℕ} (numbered : number ≡ numberOf (e .outcome)) where
-        pub stops : (number ≡ 0 → ⊥) → loadStops (e .outcome) (n + 1) (e .book) ≡ linesLoaded b₀ 0 text 0
-        stops z = sym (rw (sym numbered, ne-eqb number 0 z)) ∙ one-line ∙ turn .same
+      module _ {done : Bool} (tested : done ≡ isDone (e .outcome)) where
+        pub stops : not done ≡ true → loadAnswer (e .outcome) (n + 1) (e .book) ≡ linesLoaded b₀ 0 text 0
+        stops z = sym (rw (sym tested, not-true done z)) ∙ one-line ∙ turn .same
 
-        pub goes-on : number ≡ 0 → SameLong (e .book) b → Loading b₀ text (e .book) (n + 1) (end + 1)
+        pub goes-on : not done ≡ false → SameLong (e .book) b → Loading b₀ text (e .book) (n + 1) (end + 1)
         unfolding linesLoaded
         goes-on z long = record {
           long = then-long long (turn .long);
@@ -109,17 +109,17 @@ module _ {b₀ : Book} {text : List ℕ} {b : Book} {n at : ℕ} (turn : Loading
         }
           where
             rest : linesLoaded (e .book) (n + 1) text (end + 1) ≡ linesLoaded b n text at
-            rest = sym (rw (sym numbered, eq-eqb number 0 z)) ∙ one-line
+            rest = sym (rw (sym tested, not-false done z)) ∙ one-line
 
 -- ---- the tests before the lines
 
 module _ (b : Book) (text : List ℕ) {r : Bool} (areas : r ≡ sized b) where
-  pub areas-refused : not r ≡ true → loadStops BadAreas 0 b ≡ loadOf b text
+  pub areas-refused : not r ≡ true → loadAnswer BadAreas 0 b ≡ loadOf b text
   unfolding loadOf
   areas-refused n = rw (sym areas, not-true r n)
 
   module _ (n : not r ≡ false) where
-    pub too-long : longestText < length text → loadStops TooLong 0 b ≡ loadOf b text
+    pub too-long : longestText < length text → loadAnswer TooLong 0 b ≡ loadOf b text
     unfolding loadOf
     too-long l = rw (sym areas, not-false r n, lt-leb (length text) longestText l)
 

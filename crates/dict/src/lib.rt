@@ -6,12 +6,14 @@ ghost use mathlib.Core.Path.{_≡_};
 ghost use mathlib.Core.Bool.{true};
 ghost use Prim.Native.Nat.{_-_, _≤_};
 ghost use lib.ListN.{length};
-ghost use Rattle.trie.specs.Trie.{trieOf, log2};
-ghost use Rattle.book.specs.Areas.{bookOf};
+ghost use Rattle.trie.specs.Trie.{log2};
+ghost use Rattle.trie.specs.Lent.{was};
+ghost use Rattle.book.specs.Areas.{bookLent, bookLeft};
 ghost use Rattle.book.specs.Returns.{longestText, allowed};
-ghost use Rattle.book.specs.Enter.{loadOf};
-ghost use Rattle.entry.specs.Texts.{enterLine, entered};
-ghost use Rattle.dict.specs.Answers.{loaded, linesLoaded};
+ghost use Rattle.book.specs.Enter.{loadAnswer, loadOf};
+ghost use Rattle.book.specs.Numbers.{loadedReturns, loadReturns};
+ghost use Rattle.entry.specs.Texts.{enterAnswer, enterLine};
+ghost use Rattle.dict.specs.Answers.{linesLoaded};
 use book::Head;
 use book::Outcome;
 use entry::Entered;
@@ -39,7 +41,7 @@ fn load_line(
 ) -> Entered
     requires { ⌜ allowed (length (now «root_children»)) (length (now «root_words»)) (length (now keys)) (length (now children)) (length (now words)) (length (now frequencies)) (length (now logarithms)) ≡ true ⌝ }
     requires { ⌜ (shift ≡ 64 - log2 (length (now keys))) × (length (now line) ≤ longestText) ⌝ }
-    ensures { λ r. ⌜ entered r (trieOf (now («root_children» .exit)) (now («root_words» .exit)) (now (keys .exit)) (now (children .exit)) (now (words .exit))) (now (frequencies .exit)) (now (logarithms .exit)) ≡ enterLine (bookOf head (trieOf (now («root_children» .entry)) (now («root_words» .entry)) (now (keys .entry)) (now (children .entry)) (now (words .entry))) (now (frequencies .entry)) (now (logarithms .entry))) (now (line .entry)) ⌝ }
+    ensures { λ r. ⌜ enterAnswer (r .outcome) (bookLeft (r .head) «root_children» «root_words» keys children words frequencies logarithms) ≡ enterLine (bookLent head «root_children» «root_words» keys children words frequencies logarithms) (was line) ⌝ }
 {
     match lines::parse_line(line) {
         Line::Malformed => Entered {
@@ -98,7 +100,7 @@ fn load_lines(
 ) -> Loaded
     requires { ⌜ allowed (length (now «root_children»)) (length (now «root_words»)) (length (now keys)) (length (now children)) (length (now words)) (length (now frequencies)) (length (now logarithms)) ≡ true ⌝ }
     requires { ⌜ (shift ≡ 64 - log2 (length (now keys))) × (length (now text) ≤ longestText) ⌝ }
-    ensures { λ r. ⌜ loaded r (trieOf (now («root_children» .exit)) (now («root_words» .exit)) (now (keys .exit)) (now (children .exit)) (now (words .exit))) (now (frequencies .exit)) (now (logarithms .exit)) ≡ linesLoaded (bookOf head (trieOf (now («root_children» .entry)) (now («root_words» .entry)) (now (keys .entry)) (now (children .entry)) (now (words .entry))) (now (frequencies .entry)) (now (logarithms .entry))) 0 (now (text .entry)) 0 ⌝ }
+    ensures { λ r. ⌜ loadAnswer (r .outcome) (r .line) (bookLeft (r .head) «root_children» «root_words» keys children words frequencies logarithms) ≡ linesLoaded (bookLent head «root_children» «root_words» keys children words frequencies logarithms) 0 (was text) 0 ⌝ }
 {
     let mut head = head;
     let mut at: usize = 0;
@@ -120,7 +122,7 @@ fn load_lines(
         );
         let outcome = entered.outcome;
         head = entered.head;
-        if book::number_of(outcome) != 0 {
+        if !book::is_done(outcome) {
             return Loaded {
                 outcome,
                 line,
@@ -148,7 +150,8 @@ pub fn load_dict(
     logarithms: &mut [f64],
     text: &[u8],
 ) -> Loaded
-    ensures { λ r. ⌜ loaded r (trieOf (now («root_children» .exit)) (now («root_words» .exit)) (now (keys .exit)) (now (children .exit)) (now (words .exit))) (now (frequencies .exit)) (now (logarithms .exit)) ≡ loadOf (bookOf head (trieOf (now («root_children» .entry)) (now («root_words» .entry)) (now (keys .entry)) (now (children .entry)) (now (words .entry))) (now (frequencies .entry)) (now (logarithms .entry))) (now (text .entry)) ⌝ }
+    ensures { λ r. ⌜ loadAnswer (r .outcome) (r .line) (bookLeft (r .head) «root_children» «root_words» keys children words frequencies logarithms) ≡ loadOf (bookLent head «root_children» «root_words» keys children words frequencies logarithms) (was text) ⌝ }
+    ensures { λ r. ⌜ loadedReturns (r .outcome) (r .line) ≡ loadReturns (bookLent head «root_children» «root_words» keys children words frequencies logarithms) (was text) ⌝ }
 {
     if !book::is_allowed(
         root_children.len(),

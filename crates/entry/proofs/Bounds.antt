@@ -27,7 +27,7 @@ use Rattle.book.specs.declared.Outcome.{Outcome}
 use Rattle.book.specs.declared.Outcome.the-variants.{Done}
 use Rattle.book.specs.Areas.{bookOf}
 use Rattle.book.specs.Returns.{Book, numberOf, allowed, greatestTotal, lastNode, damagedHead}
-use Rattle.book.specs.Enter.{emptySlots, noRecord, decideHeld, decideNew, decideReached, decideAbsent, decide, enter}
+use Rattle.book.specs.Enter.{emptySlots, noRecord, nextRecord, decideHeld, decideNew, decideReached, decideAbsent, decide, enter}
 use Rattle.book.proofs.Held.{held-used}
 use Rattle.book.proofs.Sizes.{sizes}
 use Rattle.book.proofs.Areas.{slot-count}
@@ -35,7 +35,7 @@ use Rattle.entry.specs.Texts.{decideText}
 
 -- what a decision promises of a book with so many records and slots; a refusal is not answered with 0
 pub record Inserts (h : Head) (records slotCount slots nodes : ℕ) : Type 0 where
-  pub record-left : h .records < records
+  pub record-left : nextRecord h < records
   pub slots-within : (h .slots + slots) * 8 ≤ slotCount * 6
   pub nodes-within : h .next + nodes ≤ lastNode
 

@@ -18,9 +18,9 @@ use Rattle.book.specs.declared.Outcome.{Outcome}
 use Rattle.book.specs.declared.Outcome.the-variants.{Done, Damaged}
 use Rattle.book.specs.Areas.{bookOf}
 use Rattle.book.specs.Returns.{Book, damagedHead}
-use Rattle.book.specs.Enter.{withTotal, replaced, inserted}
+use Rattle.book.specs.Enter.{nextRecord, recordsAfterNew, withTotal, replaced, inserted}
 use Rattle.entry.specs.declared.Entered.{Entered}
-use Rattle.entry.specs.Texts.{decideText, enterAnswer, enterBy, enterText, entered}
+use Rattle.entry.specs.Texts.{decideText, enterAnswer, enterBy, enterText}
 
 by-decision : (b : Book) (o : Option (List ℕ)) (frequency : ℕ) → IsSome o → damagedHead b ≡ false → (d : Decision) → d ≡ decideText b o frequency
     → enterBy b (Option·getD o []) frequency d ≡ enterText b o frequency
@@ -46,14 +46,14 @@ module _ (head : Head) (trie : CharTrie) (f : List ℕ) (l : List Float) (o : Op
 
     -- the same with the areas as the writes leave them
     pub replaced-by : {n total : ℕ} → d ≡ Replace n total → (f₁ : List ℕ) → f₁ ≡ set f n frequency → (l₁ : List Float) → l₁ ≡ set l n (logFloat frequency)
-        → {r : Entered} → r ≡ record { outcome = Done; head = withTotal head total } → entered r trie f₁ l₁ ≡ enterText (bookOf head trie f l) o frequency
+        → {r : Entered} → r ≡ record { outcome = Done; head = withTotal head total } → enterAnswer (r .outcome) (bookOf (r .head) trie f₁ l₁) ≡ enterText (bookOf head trie f l) o frequency
     unfolding replaced
     replaced-by e f₁ ef l₁ el er = rw (er, ef, el) (rw e at decided)
 
-    pub inserted-by : {slots nodes total : ℕ} → d ≡ Insert slots nodes total → (number : ℤ) → number ≡ pos (head .records)
+    pub inserted-by : {slots nodes total : ℕ} → d ≡ Insert slots nodes total → (n : ℕ) → n ≡ nextRecord head → (number : ℤ) → number ≡ pos n
         → (trie₁ : CharTrie) → trie₁ ≡ insert trie Root (Option·getD o []) (head .next) number
-        → (f₁ : List ℕ) → f₁ ≡ set f (head .records) frequency
-        → (l₁ : List Float) → l₁ ≡ set l (head .records) (logFloat frequency)
-        → enterAnswer Done (bookOf (record { records = head .records + 1; slots = head .slots + slots; next = head .next + nodes; total = total }) trie₁ f₁ l₁) ≡ enterText (bookOf head trie f l) o frequency
+        → (f₁ : List ℕ) → f₁ ≡ set f n frequency
+        → (l₁ : List Float) → l₁ ≡ set l n (logFloat frequency)
+        → enterAnswer Done (bookOf (record { records = recordsAfterNew head; slots = head .slots + slots; next = head .next + nodes; total = total }) trie₁ f₁ l₁) ≡ enterText (bookOf head trie f l) o frequency
     unfolding inserted
-    inserted-by e number en trie₁ et f₁ ef l₁ el = rw (et, en, ef, el) (rw e at decided)
+    inserted-by e n taken number en trie₁ et f₁ ef l₁ el = rw (et, en, ef, el, taken) (rw e at decided)

@@ -5,42 +5,27 @@ use mathlib.Core.Path.{_≡_, refl, ap, _∙_}
 use mathlib.Core.Bool.{false, cond}
 use mathlib.Core.List.{List, _∷_}
 use Prim.Native.Nat.{ℕ, _+_}
-use native.Mathlib.Omega.{arith}
 use borrow.Author.Tests.{ne-eqb}
 use Rattle.lines.specs.Lines.{Meaning, malformed, blank, badFrequency, entry, meaningOf}
 use Rattle.book.specs.declared.Decision.{Decision}
 use Rattle.book.specs.declared.Decision.the-variants.{Refuse, Replace, Insert}
 use Rattle.book.specs.declared.Outcome.{Outcome}
-use Rattle.book.specs.declared.Outcome.the-variants.{Done, BadAreas, TooLong, Malformed, BadFrequency}
+use Rattle.book.specs.declared.Outcome.the-variants.{Malformed, BadFrequency}
 use Rattle.book.specs.Returns.{Book, numberOf, isDone}
-use Rattle.book.specs.Enter.{replaced, inserted, LoadAnswer, loadStops, enter, loadLines}
+use Rattle.book.specs.Enter.{replaced, inserted, LoadAnswer, loadAnswer, enter, loadLines}
+use Rattle.book.proofs.Outcomes.{done-only}
 use Rattle.entry.specs.Texts.{EnterAnswer, enterBy, enterMeaning, enterLine}
 use Rattle.entry.proofs.Bounds.{Promises, entering}
-
--- 0 is the number of one outcome alone
-done-only : (o : Outcome) → numberOf o ≡ 0 → o ≡ Done
-done-only Done e = refl
-done-only BadAreas e = absurd (omega arith)
-done-only TooLong e = absurd (omega arith)
-done-only Malformed e = absurd (omega arith)
-done-only BadFrequency e = absurd (omega arith)
-done-only Outcome.TotalTooLarge e = absurd (omega arith)
-done-only Outcome.RecordsFull e = absurd (omega arith)
-done-only Outcome.SlotsFull e = absurd (omega arith)
-done-only Outcome.Damaged e = absurd (omega arith)
-done-only Outcome.WorkTooShort e = absurd (omega arith)
-done-only Outcome.EdgesFull e = absurd (omega arith)
-done-only Outcome.TokensFull e = absurd (omega arith)
 
 pub refusal : (b : Book) (o : Outcome) → Promises b (Refuse o) → isDone o ≡ false
 refusal b o p = ne-eqb (numberOf o) 0 (λ e. p (done-only o e))
 
 -- the lines after one that was answered so
 abbrev pub loadOn : EnterAnswer → ℕ → List (List ℕ) → LoadAnswer
-loadOn e n ls = cond (isDone (e .outcome)) (loadLines (e .book) (n + 1) ls) (loadStops (e .outcome) (n + 1) (e .book))
+loadOn e n ls = cond (isDone (e .outcome)) (loadLines (e .book) (n + 1) ls) (loadAnswer (e .outcome) (n + 1) (e .book))
 
 by-decision : (b : Book) (word : List ℕ) (frequency n : ℕ) (ls : List (List ℕ)) (d : Decision) → Promises b d
-    → loadOn (enterBy b word frequency d) n ls ≡ elim d [ Refuse o ↦ loadStops o (n + 1) b | Replace r total ↦ loadLines (replaced b r frequency total) (n + 1) ls | Insert slots nodes total ↦ loadLines (inserted b word frequency slots nodes total) (n + 1) ls ]
+    → loadOn (enterBy b word frequency d) n ls ≡ elim d [ Refuse o ↦ loadAnswer o (n + 1) b | Replace r total ↦ loadLines (replaced b r frequency total) (n + 1) ls | Insert slots nodes total ↦ loadLines (inserted b word frequency slots nodes total) (n + 1) ls ]
 by-decision b word frequency n ls (Refuse o) p = rw (refusal b o p)
 by-decision b word frequency n ls (Replace r total) p = refl
 by-decision b word frequency n ls (Insert slots nodes total) p = refl

@@ -3,18 +3,15 @@
 use Prim.Native.Nat.{ℕ}
 use mathlib.Core.List.{List}
 use mathlib.Core.Option.{Option, none, some}
-use lib.Ieee.{Float}
 use Rattle.lines.specs.Lines.{Meaning, malformed, blank, badFrequency, entry, meaningOf}
 use Rattle.trie.specs.declared.ParentRef.the-variants.{Root}
-use Rattle.trie.specs.Trie.{CharTrie, reach}
+use Rattle.trie.specs.Trie.{reach}
 use Rattle.book.specs.declared.Decision.{Decision}
 use Rattle.book.specs.declared.Decision.the-variants.{Refuse}
 use Rattle.book.specs.declared.Outcome.{Outcome}
 use Rattle.book.specs.declared.Outcome.the-variants.{Done, Malformed, BadFrequency}
-use Rattle.book.specs.Areas.{bookOf}
 use Rattle.book.specs.Returns.{Book}
 use Rattle.book.specs.Enter.{decideAbsent, decide, enter, written, outcomeOf}
-use Rattle.entry.specs.declared.Entered.{Entered}
 
 -- how a word enters that the lookup does not find; a text that is malformed does not
 unfoldable pub absentText : Book → Option (List ℕ) → ℕ → Decision
@@ -41,10 +38,6 @@ enterBy b word frequency d = enterAnswer (outcomeOf d) (written b word frequency
 unfoldable pub enterText : Book → Option (List ℕ) → ℕ → EnterAnswer
 enterText b none frequency = enterAnswer Malformed b
 enterText b (some word) frequency = enterBy b word frequency (enter b word frequency)
-
--- an answer with the areas as they are left
-abbrev pub entered : Entered → CharTrie → List ℕ → List Float → EnterAnswer
-entered r trie frequencies logarithms = enterAnswer (r .outcome) (bookOf (r .head) trie frequencies logarithms)
 
 -- a line enters: "3, 4", a blank one passed over, then its word
 abbrev pub enterMeaning : Book → Meaning → EnterAnswer

@@ -9,13 +9,14 @@ ghost use Prim.Native.Nat.{_-_, _≤_, _<_};
 ghost use Rattle.score.specs.Logarithm.{logFloat};
 ghost use lib.ListN.{length, set};
 ghost use Rattle.utf8.specs.Text.{charsOf};
-ghost use Rattle.trie.specs.Trie.{trieOf, log2, SlotCount};
+ghost use Rattle.trie.specs.Trie.{log2, SlotCount};
+ghost use Rattle.trie.specs.Lent.{was, became, trieLent};
 ghost use Rattle.walk.specs.Walk.{EquallyLong};
-ghost use Rattle.book.specs.Areas.{bookOf};
+ghost use Rattle.book.specs.Areas.{bookOf, bookLent, bookLeft};
 ghost use Rattle.book.specs.declared.Outcome.the-variants.{Done};
 ghost use Rattle.book.specs.Returns.{longestText, greatestTotal, allowed, headDamaged};
 ghost use Rattle.book.specs.Enter.{withTotal};
-ghost use Rattle.entry.specs.Texts.{absentText, decideText, enterText, entered};
+ghost use Rattle.entry.specs.Texts.{enterAnswer, absentText, decideText, enterText};
 use book::Decision;
 use book::Head;
 use book::Outcome;
@@ -41,7 +42,7 @@ fn decide_absent(
     requires { ⌜ shift ≡ 64 - log2 (length (now keys)) ⌝ }
     requires { ⌜ headDamaged head (length (now frequencies)) (length (now keys)) ≡ false ⌝ }
     requires { ⌜ IsSome (charsOf (now word)) × (length (now word) ≤ longestText) × (frequency ≤ greatestTotal) ⌝ }
-    ensures { λ r. ⌜ ((logarithms : List Float) → r ≡ absentText (bookOf head (trieOf (now («root_children» .entry)) (now («root_words» .entry)) (now (keys .entry)) (now (children .entry)) (now (words .entry))) (now (frequencies .entry)) logarithms) (charsOf (now (word .entry))) frequency) ⌝ }
+    ensures { λ r. ⌜ ((logarithms : List Float) → r ≡ absentText (bookOf head (trieLent «root_children» «root_words» keys children words) (was frequencies) logarithms) (charsOf (was word)) frequency) ⌝ }
 {
     let used = head.records as usize;
     match walk::room_for(
@@ -96,7 +97,7 @@ pub fn decide(
     requires { ⌜ shift ≡ 64 - log2 (length (now keys)) ⌝ }
     requires { ⌜ headDamaged head (length (now frequencies)) (length (now keys)) ≡ false ⌝ }
     requires { ⌜ IsSome (charsOf (now word)) × (length (now word) ≤ longestText) × (frequency ≤ greatestTotal) × (length (now frequencies) ≤ 1048576) ⌝ }
-    ensures { λ r. ⌜ ((logarithms : List Float) → r ≡ decideText (bookOf head (trieOf (now («root_children» .entry)) (now («root_words» .entry)) (now (keys .entry)) (now (children .entry)) (now (words .entry))) (now (frequencies .entry)) logarithms) (charsOf (now (word .entry))) frequency) ⌝ }
+    ensures { λ r. ⌜ ((logarithms : List Float) → r ≡ decideText (bookOf head (trieLent «root_children» «root_words» keys children words) (was frequencies) logarithms) (charsOf (was word)) frequency) ⌝ }
 {
     let used = head.records as usize;
     match walk::get(
@@ -130,7 +131,7 @@ pub fn decide(
 fn set_record(frequencies: &mut [u32], logarithms: &mut [f64], n: usize, frequency: u32)
     requires { ⌜ (n < length (now frequencies)) × (n < length (now logarithms)) ⌝ }
     requires { ⌜ (length (now frequencies) ≤ 1048576) × (length (now logarithms) ≤ 1048576) ⌝ }
-    ensures { λ _. ⌜ (now (frequencies .exit) ≡ set (now (frequencies .entry)) n frequency) × (now (logarithms .exit) ≡ set (now (logarithms .entry)) n (logFloat frequency)) ⌝ }
+    ensures { λ _. ⌜ (became frequencies ≡ set (was frequencies) n frequency) × (became logarithms ≡ set (was logarithms) n (logFloat frequency)) ⌝ }
 {
     frequencies[n] = frequency;
     logarithms[n] = score::log(frequency);
@@ -173,7 +174,7 @@ pub fn load_entry(
 ) -> Entered
     requires { ⌜ allowed (length (now «root_children»)) (length (now «root_words»)) (length (now keys)) (length (now children)) (length (now words)) (length (now frequencies)) (length (now logarithms)) ≡ true ⌝ }
     requires { ⌜ (shift ≡ 64 - log2 (length (now keys))) × IsSome (charsOf (now word)) × (length (now word) ≤ longestText) ⌝ }
-    ensures { λ r. ⌜ entered r (trieOf (now («root_children» .exit)) (now («root_words» .exit)) (now (keys .exit)) (now (children .exit)) (now (words .exit))) (now (frequencies .exit)) (now (logarithms .exit)) ≡ enterText (bookOf head (trieOf (now («root_children» .entry)) (now («root_words» .entry)) (now (keys .entry)) (now (children .entry)) (now (words .entry))) (now (frequencies .entry)) (now (logarithms .entry))) (charsOf (now (word .entry))) frequency ⌝ }
+    ensures { λ r. ⌜ enterAnswer (r .outcome) (bookLeft (r .head) «root_children» «root_words» keys children words frequencies logarithms) ≡ enterText (bookLent head «root_children» «root_words» keys children words frequencies logarithms) (charsOf (was word)) frequency ⌝ }
 {
     if book::is_head_damaged(head, frequencies.len(), keys.len()) {
         return Entered {
@@ -200,6 +201,7 @@ pub fn load_entry(
             replaced(head, total)
         }
         Decision::Insert(slots, nodes, total) => {
+            let n = book::next_record(head);
             insert::insert(
                 root_children,
                 root_words,
@@ -209,9 +211,9 @@ pub fn load_entry(
                 shift,
                 word,
                 head.next as u32,
-                head.records as i32,
+                n as i32,
             );
-            set_record(frequencies, logarithms, head.records as usize, frequency);
+            set_record(frequencies, logarithms, n as usize, frequency);
             Entered {
                 outcome: Outcome::Done,
                 head: Head {

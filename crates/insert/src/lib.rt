@@ -18,6 +18,7 @@ ghost use Rattle.utf8.specs.Text.{charsOf};
 ghost use Rattle.trie.specs.declared.ParentRef.the-variants.{Root};
 ghost use Rattle.trie.specs.Trie as Trie;
 ghost use Rattle.trie.specs.Trie.{trieOf, log2, SlotCount, nodeAt, fromRoot, openStep, withBits, withWord, newRootEntry, newSlot};
+ghost use Rattle.trie.specs.Lent.{was, became, trieLent, trieLeft};
 ghost use Rattle.insert.specs.Insert as Insert;
 ghost use Rattle.insert.specs.Insert.{characters, Inside, Sizes, marked, reachOf, Ready, stepped, newStep};
 use trie::ParentRef;
@@ -43,7 +44,7 @@ fn node_at(root_children: &[u32], children: &[u32], place: ParentRef) -> u32
     requires { ⌜ Inside (length (now «root_children»)) (length (now children)) place ⌝ }
     ensures { λ r. ⌜
         ((rootWords words : List ℤ) (keys : List ℕ)
-        → r ≡ nodeAt (trieOf (now («root_children» .entry)) rootWords keys (now (children .entry)) words) place)
+        → r ≡ nodeAt (trieOf (was «root_children») rootWords keys (was children) words) place)
         ⌝ }
 {
     match place {
@@ -57,7 +58,7 @@ fn node_at(root_children: &[u32], children: &[u32], place: ParentRef) -> u32
 fn from_root(root_children: &[u32], place: ParentRef, ch: u32) -> bool
     ensures { λ r. ⌜
         ((rootWords words : List ℤ) (keys children : List ℕ)
-        → r ≡ fromRoot (trieOf (now («root_children» .entry)) rootWords keys children words) place ch)
+        → r ≡ fromRoot (trieOf (was «root_children») rootWords keys children words) place ch)
         ⌝ }
 {
     match place {
@@ -82,7 +83,7 @@ fn open_step(
     requires { ⌜ ch < 2 ^ 21 ⌝ }
     ensures { λ r. ⌜
         ((rootWords words : List ℤ)
-        → r ≡ openStep (trieOf (now («root_children» .entry)) rootWords (now (keys .entry)) (now (children .entry)) words) place ch)
+        → r ≡ openStep (trieOf (was «root_children») rootWords (was keys) (was children) words) place ch)
         ⌝ }
 {
     if from_root(root_children, place, ch) {
@@ -108,8 +109,8 @@ fn set_bits(
     requires { ⌜ length (now children) ≡ length (now keys) ⌝ }
     ensures { λ _. ⌜
         ((rootWords words : List ℤ)
-        → trieOf (now («root_children» .exit)) rootWords (now (keys .exit)) (now (children .exit)) words
-        ≡ withBits (trieOf (now («root_children» .entry)) rootWords (now (keys .entry)) (now (children .entry)) words) place ch)
+        → trieOf (became «root_children») rootWords (became keys) (became children) words
+        ≡ withBits (trieOf (was «root_children») rootWords (was keys) (was children) words) place ch)
         ⌝ }
 {
     let bits = trie::filter_bits(ch);
@@ -130,8 +131,8 @@ fn set_word(root_words: &mut [i32], words: &mut [i32], place: ParentRef, number:
     requires { ⌜ Inside (length (now «root_words»)) (length (now words)) place ⌝ }
     ensures { λ _. ⌜
         ((rootChildren keys children : List ℕ)
-        → trieOf rootChildren (now («root_words» .exit)) keys children (now (words .exit))
-        ≡ withWord (trieOf rootChildren (now («root_words» .entry)) keys children (now (words .entry))) place number)
+        → trieOf rootChildren (became «root_words») keys children (became words)
+        ≡ withWord (trieOf rootChildren (was «root_words») keys children (was words)) place number)
         ⌝ }
 {
     match place {
@@ -151,8 +152,8 @@ fn new_root_entry(root_children: &mut [u32], root_words: &mut [i32], ch: usize, 
     requires { ⌜ length (now «root_words») ≡ length (now «root_children») ⌝ }
     ensures { λ _. ⌜
         ((keys children : List ℕ) (words : List ℤ)
-        → trieOf (now («root_children» .exit)) (now («root_words» .exit)) keys children words
-        ≡ newRootEntry (trieOf (now («root_children» .entry)) (now («root_words» .entry)) keys children words) ch node)
+        → trieOf (became «root_children») (became «root_words») keys children words
+        ≡ newRootEntry (trieOf (was «root_children») (was «root_words») keys children words) ch node)
         ⌝ }
 {
     root_children[ch] = node;
@@ -173,8 +174,8 @@ fn new_slot(
     requires { ⌜ length (now words) ≡ length (now keys) ⌝ }
     ensures { λ _. ⌜
         ((rootChildren : List ℕ) (rootWords : List ℤ)
-        → trieOf rootChildren rootWords (now (keys .exit)) (now (children .exit)) (now (words .exit))
-        ≡ newSlot (trieOf rootChildren rootWords (now (keys .entry)) (now (children .entry)) (now (words .entry))) i key node)
+        → trieOf rootChildren rootWords (became keys) (became children) (became words)
+        ≡ newSlot (trieOf rootChildren rootWords (was keys) (was children) (was words)) i key node)
         ⌝ }
 {
     keys[i] = key;
@@ -194,11 +195,11 @@ fn mark(
     requires { ⌜ shift ≡ 64 - log2 (length (now keys)) ⌝ }
     requires { ⌜ length (now children) ≡ length (now keys) ⌝ }
     requires { ⌜ IsSome (charsOf (now s)) ⌝ }
-    ensures { λ r. ⌜ Ready (length (now («root_children» .entry))) (length (now (keys .entry))) (now (s .entry)) r ⌝ }
+    ensures { λ r. ⌜ Ready (length (was «root_children»)) (length (was keys)) (was s) r ⌝ }
     ensures { λ r. ⌜
         ((rootWords words : List ℤ)
-        → marked (reachOf (now (s .entry)) r) (trieOf (now («root_children» .exit)) rootWords (now (keys .exit)) (now (children .exit)) words)
-        ≡ Insert.mark (trieOf (now («root_children» .entry)) rootWords (now (keys .entry)) (now (children .entry)) words) Root (characters (now (s .entry))))
+        → marked (reachOf (was s) r) (trieOf (became «root_children») rootWords (became keys) (became children) words)
+        ≡ Insert.mark (trieOf (was «root_children») rootWords (was keys) (was children) words) Root (characters (was s)))
         ⌝ }
 {
     let mut place = ParentRef::Root;
@@ -234,8 +235,8 @@ fn new_step(
     requires { ⌜ Inside (length (now «root_children»)) (length (now keys)) place ⌝ }
     requires { ⌜ ch < 2 ^ 21 ⌝ }
     ensures { λ r. ⌜
-        stepped r (trieOf (now («root_children» .exit)) (now («root_words» .exit)) (now (keys .exit)) (now (children .exit)) (now (words .exit)))
-        ≡ newStep (trieOf (now («root_children» .entry)) (now («root_words» .entry)) (now (keys .entry)) (now (children .entry)) (now (words .entry))) place ch node
+        stepped r (trieLeft «root_children» «root_words» keys children words)
+        ≡ newStep (trieLent «root_children» «root_words» keys children words) place ch node
         ⌝ }
 {
     if from_root(root_children, place, ch) {
@@ -272,8 +273,8 @@ fn extend(
     requires { ⌜ IsSome (charsOf (drop at (now s))) ⌝ }
     requires { ⌜ node + length (now s) < 2 ^ 32 ⌝ }
     ensures { λ _. ⌜
-        trieOf (now («root_children» .exit)) (now («root_words» .exit)) (now (keys .exit)) (now (children .exit)) (now (words .exit))
-        ≡ Trie.extend (trieOf (now («root_children» .entry)) (now («root_words» .entry)) (now (keys .entry)) (now (children .entry)) (now (words .entry))) place (characters (drop at (now (s .entry)))) node number
+        trieLeft «root_children» «root_words» keys children words
+        ≡ Trie.extend (trieLent «root_children» «root_words» keys children words) place (characters (drop at (was s))) node number
         ⌝ }
 {
     while at < s.len() {
@@ -316,8 +317,8 @@ pub fn insert(
     requires { ⌜ IsSome (charsOf (now s)) ⌝ }
     requires { ⌜ node + length (now s) < 2 ^ 32 ⌝ }
     ensures { λ _. ⌜
-        trieOf (now («root_children» .exit)) (now («root_words» .exit)) (now (keys .exit)) (now (children .exit)) (now (words .exit))
-        ≡ Trie.insert (trieOf (now («root_children» .entry)) (now («root_words» .entry)) (now (keys .entry)) (now (children .entry)) (now (words .entry))) Root (characters (now (s .entry))) node number
+        trieLeft «root_children» «root_words» keys children words
+        ≡ Trie.insert (trieLent «root_children» «root_words» keys children words) Root (characters (was s)) node number
         ⌝ }
 {
     let Marked::UpTo(place, at) = mark(root_children, keys, children, shift, s) else {

@@ -4,9 +4,10 @@
 //! The Rust has none of these tests: its `&str` is well formed, and its tables grow. Nothing is required of the caller, and
 //! nothing is written.
 ghost use mathlib.Core.Path.{_≡_};
-ghost use Rattle.trie.specs.Trie.{trieOf};
-ghost use Rattle.book.specs.Areas.{bookOf};
+ghost use Rattle.trie.specs.Lent.{was};
+ghost use Rattle.book.specs.Areas.{bookLent};
 ghost use Rattle.book.specs.Returns.{allowed, lookupOf};
+ghost use Rattle.book.specs.Numbers.{foundReturns, lookupReturns};
 ghost use Rattle.lookup.specs.Tests.{testedWord};
 use book::Found;
 use book::Head;
@@ -32,7 +33,7 @@ pub fn test_word(
     logarithms: usize,
     word: &[u8],
 ) -> WordTest
-    ensures { λ r. ⌜ r ≡ testedWord (allowed «root_children» «root_words» keys children words frequencies logarithms) (now (word .entry)) ⌝ }
+    ensures { λ r. ⌜ r ≡ testedWord (allowed «root_children» «root_words» keys children words frequencies logarithms) (was word) ⌝ }
 {
     if !book::is_allowed(
         root_children,
@@ -69,7 +70,8 @@ pub fn lookup(
     logarithms: &[f64],
     word: &[u8],
 ) -> Found
-    ensures { λ r. ⌜ r ≡ lookupOf (bookOf head (trieOf (now («root_children» .entry)) (now («root_words» .entry)) (now (keys .entry)) (now (children .entry)) (now (words .entry))) (now (frequencies .entry)) (now (logarithms .entry))) (now (word .entry)) ⌝ }
+    ensures { λ r. ⌜ r ≡ lookupOf (bookLent head «root_children» «root_words» keys children words frequencies logarithms) (was word) ⌝ }
+    ensures { λ r. ⌜ foundReturns r ≡ lookupReturns (bookLent head «root_children» «root_words» keys children words frequencies logarithms) (was word) ⌝ }
 {
     match test_word(
         root_children.len(),

@@ -4,14 +4,16 @@
 //! chooses within document 01's limits, and whatever they hold is overwritten.
 ghost use mathlib.Core.Path.{_≡_};
 ghost use lib.ListN.{length, replicate};
-ghost use Rattle.trie.specs.Trie.{noWord, trieOf};
+ghost use Rattle.trie.specs.Trie.{noWord};
+ghost use Rattle.trie.specs.Lent.{was, became, trieLent, trieLeft};
 ghost use Rattle.book.specs.Returns.{prepareAnswer, prepareOf};
+ghost use Rattle.book.specs.Numbers.{preparedReturns, prepareReturns};
 use book::Head;
 use book::Outcome;
 use book::Prepared;
 
 fn fill_u32(s: &mut [u32], v: u32)
-    ensures { λ _. ⌜ now (s .exit) ≡ replicate (length (now (s .entry))) v ⌝ }
+    ensures { λ _. ⌜ became s ≡ replicate (length (was s)) v ⌝ }
 {
     let mut i = 0;
     while i < s.len() {
@@ -21,7 +23,7 @@ fn fill_u32(s: &mut [u32], v: u32)
 }
 
 fn fill_u64(s: &mut [u64], v: u64)
-    ensures { λ _. ⌜ now (s .exit) ≡ replicate (length (now (s .entry))) v ⌝ }
+    ensures { λ _. ⌜ became s ≡ replicate (length (was s)) v ⌝ }
 {
     let mut i = 0;
     while i < s.len() {
@@ -32,7 +34,7 @@ fn fill_u64(s: &mut [u64], v: u64)
 
 // Every word number -1: no word.
 fn fill_no_word(s: &mut [i32])
-    ensures { λ _. ⌜ now (s .exit) ≡ replicate (length (now (s .entry))) noWord ⌝ }
+    ensures { λ _. ⌜ became s ≡ replicate (length (was s)) noWord ⌝ }
 {
     let mut i = 0;
     while i < s.len() {
@@ -42,7 +44,7 @@ fn fill_no_word(s: &mut [i32])
 }
 
 fn fill_f64(s: &mut [f64], v: f64)
-    ensures { λ _. ⌜ now (s .exit) ≡ replicate (length (now (s .entry))) v ⌝ }
+    ensures { λ _. ⌜ became s ≡ replicate (length (was s)) v ⌝ }
 {
     let mut i = 0;
     while i < s.len() {
@@ -61,7 +63,8 @@ pub fn prepare(
     frequencies: &mut [u32],
     logarithms: &mut [f64],
 ) -> Prepared
-    ensures { λ r. ⌜ prepareAnswer r (trieOf (now («root_children» .exit)) (now («root_words» .exit)) (now (keys .exit)) (now (children .exit)) (now (words .exit))) (now (frequencies .exit)) (now (logarithms .exit)) ≡ prepareOf (trieOf (now («root_children» .entry)) (now («root_words» .entry)) (now (keys .entry)) (now (children .entry)) (now (words .entry))) (now (frequencies .entry)) (now (logarithms .entry)) ⌝ }
+    ensures { λ r. ⌜ prepareAnswer r (trieLeft «root_children» «root_words» keys children words) (became frequencies) (became logarithms) ≡ prepareOf (trieLent «root_children» «root_words» keys children words) (was frequencies) (was logarithms) ⌝ }
+    ensures { λ r. ⌜ preparedReturns r ≡ prepareReturns (trieLent «root_children» «root_words» keys children words) (was frequencies) (was logarithms) ⌝ }
 {
     if !book::is_allowed(
         root_children.len(),

@@ -4,6 +4,7 @@ use crate::frames::Kind;
 use book::Head;
 use book::Prepared;
 use cuts::Cut;
+use cuts::TokenizeMode;
 use dict::Loaded;
 ghost use mathlib.Core.Path.{_≡_};
 ghost use Prim.Native.Nat.{_≤_};
@@ -52,8 +53,8 @@ fn print_cut(cut: Cut, tokens: &[u32])
     answers::print_answer(book::number_of(outcome), cut.count, &tokens[..end]);
 }
 
-// 02, with a work area of 1,025, an edge area of 1,024 and 512 token places.
-fn cut(
+// 02 and 04, with a work area of 1,025, an edge area of 1,024 and 512 token places.
+fn tokenize(
     head: Head,
     root_children: &[u32],
     root_words: &[i32],
@@ -63,6 +64,7 @@ fn cut(
     frequencies: &[u32],
     logarithms: &[f64],
     sentence: &[u8],
+    mode: TokenizeMode,
 ) {
     let mut chars = [0u32; 1025];
     let mut offsets = [0u32; 1025];
@@ -73,7 +75,7 @@ fn cut(
     let mut edge_ends = [0u32; 1024];
     let mut edge_records = [0u32; 1024];
     let mut tokens = [0u32; 2048];
-    let cut = cut::cut(
+    let cut = tokenize::tokenize(
         head,
         root_children,
         root_words,
@@ -83,6 +85,7 @@ fn cut(
         frequencies,
         logarithms,
         sentence,
+        mode,
         &mut chars,
         &mut offsets,
         &mut starts,
@@ -142,7 +145,7 @@ pub fn answer(
     sentence: &[u8],
 ) {
     match kind {
-        Kind::Cut => cut(
+        Kind::Tokenize(mode) => tokenize(
             head,
             root_children,
             root_words,
@@ -152,6 +155,7 @@ pub fn answer(
             frequencies,
             logarithms,
             sentence,
+            mode,
         ),
         Kind::CutAll => cut_all(
             head,

@@ -1,5 +1,6 @@
 // A frame of document 01's program `cutlines`: a line of hexadecimal digits of either case, two for each byte. The first byte is
 // the kind, and at most 1,024 more are the text.
+use cuts::TokenizeMode;
 ghost use Prim.Native.Nat.{_+_, _*_, _<_, _≤_};
 ghost use lib.ListN.{length};
 ghost use Rattle.io.specs.Counts.{Counts};
@@ -11,11 +12,11 @@ const LONGEST: usize = 2050;
 pub enum Kind {
     // 01
     Load,
-    // 02
-    Cut,
+    // 02, and for search 04
+    Tokenize(TokenizeMode),
     // 03
     CutAll,
-    // Every other line. 04, `cut_for_search`, is not among the calls yet.
+    // Every other line.
     NoFrame,
 }
 
@@ -67,8 +68,9 @@ fn byte_at(line: &[u8], at: usize) -> u8
 fn kind_of(b: u8) -> Kind {
     match b {
         1 => Kind::Load,
-        2 => Kind::Cut,
+        2 => Kind::Tokenize(TokenizeMode::Default),
         3 => Kind::CutAll,
+        4 => Kind::Tokenize(TokenizeMode::Search),
         _ => Kind::NoFrame,
     }
 }

@@ -9,6 +9,7 @@ ghost use mathlib.Core.List.{[], _∷_};
 ghost use mathlib.Core.Logic.{_⊎_};
 ghost use Prim.Native.Nat.{_<_};
 ghost use lib.ListN.{length};
+ghost use Rattle.trie.specs.Lent.{was, became};
 ghost use Rattle.route.specs.Route.{stepScore, chosen, settled};
 ghost use Rattle.route.specs.Slices.{asBest, asChoice, recordOf, withScores, EdgesFit, PlacesFit, chosenFrom, ChosenOf, KeepsRoute};
 
@@ -73,9 +74,9 @@ fn best_of(
     to: usize,
 ) -> Choice
     requires { ⌜ PlacesFit (now «edge_ends») (now «edge_records») (length (now scores)) (length (now logarithms)) from to ⌝ }
-    ensures { λ r. ⌜ asChoice r ≡ chosenFrom (now («edge_ends» .entry)) (now («edge_records» .entry)) (now (logarithms .entry)) (now (scores .entry))
+    ensures { λ r. ⌜ asChoice r ≡ chosenFrom (was «edge_ends») (was «edge_records») (was logarithms) (was scores)
         «log_total» from to ⌝ }
-    ensures { λ r. ⌜ ChosenOf (now («edge_ends» .entry)) (now («edge_records» .entry)) from to r ⌝ }
+    ensures { λ r. ⌜ ChosenOf (was «edge_ends») (was «edge_records») from to r ⌝ }
 {
     let mut choice = Choice::NoEdge;
     let mut place = from;
@@ -121,8 +122,8 @@ pub fn calc(
 )
     requires { ⌜ (n < 16777216) × (n < length (now starts)) × (n < length (now scores)) × (n < length (now ends)) × (n < length (now records)) ⌝ }
     requires { ⌜ EdgesFit (now starts) (now «edge_ends») (now «edge_records») (length (now logarithms)) n ⌝ }
-    ensures { λ _. ⌜ KeepsRoute (now (starts .entry)) (now («edge_ends» .entry)) (now («edge_records» .entry)) (now (logarithms .entry)) «log_total» n
-        (now (scores .exit)) (now (ends .exit)) (now (records .exit)) ⌝ }
+    ensures { λ _. ⌜ KeepsRoute (was starts) (was «edge_ends») (was «edge_records») (was logarithms) «log_total» n
+        (became scores) (became ends) (became records) ⌝ }
 {
     scores[n] = 0.0;
     ends[n] = n as u32;

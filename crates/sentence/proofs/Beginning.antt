@@ -2,13 +2,12 @@
 -- from the outcome of the tests alone, where nothing is cut after them.
 -- Assumes nothing.
 use mathlib.Core.Path.{_≡_, refl, sym, ap, _∙_}
-use mathlib.Core.Bool.{Bool, true, false, cond, _&&_}
+use mathlib.Core.Bool.{Bool, true, false, cond, _&&_, false≢true}
 use mathlib.Core.List.{List}
-use mathlib.Core.Logic.{_≢_}
 use mathlib.Core.Option.{Option, none, some}
 use Prim.Native.Nat.{ℕ, _+_, _%_, _≤_, _<_}
 use native.Mathlib.Omega.{arith}
-use borrow.Author.Tests.{ltb-true, ltb-false, eqb-false, leb-true, eqb-true, le-leb, lt-leb, lt-ltb, le-ltb, eq-eqb, ne-eqb}
+use borrow.Author.Tests.{ltb-true, ltb-false, leb-true, eqb-true, le-leb, lt-leb, lt-ltb, le-ltb, eq-eqb, ne-eqb}
 use lib.Dec.{eqb, leb, ltb}
 use lib.ListN.{length}
 use Rattle.utf8.specs.declared.CharCount.{CharCount}
@@ -16,7 +15,7 @@ use Rattle.utf8.specs.declared.CharCount.the-variants.{Chars}
 use Rattle.utf8.specs.Text.{charsOf, countOf}
 use Rattle.book.specs.declared.Outcome.{Outcome}
 use Rattle.book.specs.declared.Outcome.the-variants.{Done, BadAreas, TooLong, Malformed, Damaged, WorkTooShort}
-use Rattle.book.specs.Returns.{numberOf, isDone, longestText}
+use Rattle.book.specs.Returns.{isDone, longestText}
 use Rattle.cuts.specs.Tokens.{Written, written, tokenWidth}
 use Rattle.cuts.specs.Slices.{shorter}
 use Rattle.cuts.specs.Cuts.{CutAnswer, answer, Tested, cutChars, cutWith, begins}
@@ -88,19 +87,20 @@ pub record Begun (t : Tested) (work : ℕ) (area sentence : List ℕ) : Type 0 w
   pub undamaged : t .damage ≡ false
   pub cut : (cutting : List ℕ → Written → CutAnswer) → cutWith t work area cutting sentence ≡ cutting chars (written 0 area)
 
-done-number : (o : Outcome) (w v : Written) → answer o w ≡ answer Done v → numberOf o ≡ 0
-done-number o w v e = ap (λ (a : CutAnswer). numberOf (a .outcome)) e
+-- of two answers that are the same, both are done or neither is
+alike : (o r : Outcome) (w v : Written) → answer o w ≡ answer r v → isDone o ≡ isDone r
+alike o r w v e = ap (λ (a : CutAnswer). isDone (a .outcome)) e
 
 module _ (t : Tested) (work : ℕ) (area sentence : List ℕ) (o : Outcome) (tests : answer o (written 0 area) ≡ cutWith t work area (λ cs. answer Done) sentence) where
   -- a refusal by the tests is every cut's
-  pub refused : (numberOf o ≡ 0 → ⊥) → (cutting : List ℕ → Written → CutAnswer) → answer o (written 0 area) ≡ cutWith t work area cutting sentence
+  pub refused : isDone o ≡ false → (cutting : List ℕ → Written → CutAnswer) → answer o (written 0 area) ≡ cutWith t work area cutting sentence
   unfolding cutWith
   refused other cutting = by-sizes (t .sizes && eqb (length area % tokenWidth) 0) tests
     where
       by-damage : (d : Bool) (cs : List ℕ) → answer o (written 0 area) ≡ cond d (answer Damaged (written 0 area)) (answer Done (written 0 area))
           → answer o (written 0 area) ≡ cond d (answer Damaged (written 0 area)) (cutting cs (written 0 area))
       by-damage true cs e = e
-      by-damage false cs e = absurd (other (done-number o _ _ e))
+      by-damage false cs e = absurd (false≢true (sym other ∙ alike o Done _ _ e))
 
       by-work : (s : Bool) (cs : List ℕ)
           → answer o (written 0 area) ≡ cond s (answer WorkTooShort (written 0 area)) (cond (t .damage) (answer Damaged (written 0 area)) (answer Done (written 0 area)))
@@ -125,22 +125,22 @@ module _ (t : Tested) (work : ℕ) (area sentence : List ℕ) (o : Outcome) (tes
       by-sizes true e = by-length (leb (length sentence) longestText) e
       by-sizes false e = e
 
-  -- an outcome of 0 says that the cut begins
-  pub begun : numberOf o ≡ 0 → Begun t work area sentence
+  -- where they are done, the cut begins
+  pub begun : isDone o ≡ true → Begun t work area sentence
   unfolding cutWith
   begun done = by-sizes (t .sizes) refl tests
     where
-      not-done : (r : Outcome) → (numberOf r ≡ 0 → ⊥) → answer o (written 0 area) ≡ answer r (written 0 area) → ⊥
-      not-done r other e = other (sym (ap (λ (a : CutAnswer). numberOf (a .outcome)) e) ∙ done)
+      not-done : (r : Outcome) → isDone r ≡ false → answer o (written 0 area) ≡ answer r (written 0 area) → ⊥
+      not-done r other e = false≢true (sym other ∙ sym (alike o r _ _ e) ∙ done)
 
       by-chars-read : (s : t .sizes ≡ true) (w : length area % tokenWidth ≡ 0) (l : length sentence ≤ longestText) (cs : Option (List ℕ)) → charsOf sentence ≡ cs
           → answer o (written 0 area) ≡ cutChars t work (λ cs. answer Done) (written 0 area) cs → Begun t work area sentence
-      by-chars-read s w l none read e = absurd (not-done Malformed (λ z. omega arith) e)
+      by-chars-read s w l none read e = absurd (not-done Malformed refl e)
       by-chars-read s w l (some cs) read e = by-work (ltb work (length cs + 1)) refl e
         where
           by-damage : (d : Bool) → t .damage ≡ d → ltb work (length cs + 1) ≡ false
               → answer o (written 0 area) ≡ cond d (answer Damaged (written 0 area)) (answer Done (written 0 area)) → Begun t work area sentence
-          by-damage true d h e = absurd (not-done Damaged (λ z. omega arith) e)
+          by-damage true d h e = absurd (not-done Damaged refl e)
           by-damage false d h e = record {
             chars = cs;
             read = read;
@@ -154,31 +154,31 @@ module _ (t : Tested) (work : ℕ) (area sentence : List ℕ) (o : Outcome) (tes
           by-work : (z : Bool) → ltb work (length cs + 1) ≡ z
               → answer o (written 0 area) ≡ cond z (answer WorkTooShort (written 0 area)) (cond (t .damage) (answer Damaged (written 0 area)) (answer Done (written 0 area)))
               → Begun t work area sentence
-          by-work true h e = absurd (not-done WorkTooShort (λ z. omega arith) e)
+          by-work true h e = absurd (not-done WorkTooShort refl e)
           by-work false h e = by-damage (t .damage) refl h e
 
       by-length : (s : t .sizes ≡ true) (w : length area % tokenWidth ≡ 0) (z : Bool) → leb (length sentence) longestText ≡ z
           → answer o (written 0 area) ≡ cond z (cutChars t work (λ cs. answer Done) (written 0 area) (charsOf sentence)) (answer TooLong (written 0 area)) → Begun t work area sentence
       by-length s w true l e = by-chars-read s w (leb-true (length sentence) longestText l) (charsOf sentence) refl e
-      by-length s w false l e = absurd (not-done TooLong (λ z. omega arith) e)
+      by-length s w false l e = absurd (not-done TooLong refl e)
 
       by-tokens : (s : t .sizes ≡ true) (z : Bool) → eqb (length area % tokenWidth) 0 ≡ z
           → answer o (written 0 area)
           ≡ cond z (cond (leb (length sentence) longestText) (cutChars t work (λ cs. answer Done) (written 0 area) (charsOf sentence)) (answer TooLong (written 0 area))) (answer BadAreas (written 0 area))
           → Begun t work area sentence
       by-tokens s true w e = by-length s (eqb-true (length area % tokenWidth) 0 w) (leb (length sentence) longestText) refl e
-      by-tokens s false w e = absurd (not-done BadAreas (λ z. omega arith) e)
+      by-tokens s false w e = absurd (not-done BadAreas refl e)
 
       by-sizes : (z : Bool) → t .sizes ≡ z
           → answer o (written 0 area)
           ≡ cond (z && eqb (length area % tokenWidth) 0) (cond (leb (length sentence) longestText) (cutChars t work (λ cs. answer Done) (written 0 area) (charsOf sentence)) (answer TooLong (written 0 area))) (answer BadAreas (written 0 area))
           → Begun t work area sentence
       by-sizes true s e = by-tokens s (eqb (length area % tokenWidth) 0) refl e
-      by-sizes false s e = absurd (not-done BadAreas (λ z. omega arith) e)
+      by-sizes false s e = absurd (not-done BadAreas refl e)
 
   -- and then it is not so that cutting does not begin
-  pub has-begun : numberOf o ≡ 0 → begins t work area sentence ≡ false → ⊥
-  has-begun done none-begun = eqb-false (numberOf o) 0 (ap (λ (a : CutAnswer). isDone (a .outcome)) tests ∙ none-begun) done
+  pub has-begun : isDone o ≡ true → begins t work area sentence ≡ false → ⊥
+  has-begun done none-begun = false≢true (sym none-begun ∙ sym (ap (λ (a : CutAnswer). isDone (a .outcome)) tests) ∙ done)
 
 -- ---- the length of an area of several slices
 

@@ -4,9 +4,9 @@
 //! written, so that a cut that does not begin leaves every area as it was.
 ghost use mathlib.Core.Path.{_≡_};
 ghost use lib.ListN.{length};
-ghost use Rattle.trie.specs.Trie.{trieOf};
+ghost use Rattle.trie.specs.Lent.{was};
 ghost use Rattle.book.specs.declared.Outcome.the-variants.{Done};
-ghost use Rattle.book.specs.Areas.{bookOf};
+ghost use Rattle.book.specs.Areas.{bookLent};
 ghost use Rattle.cuts.specs.Slices as Slices;
 ghost use Rattle.cuts.specs.Tokens.{written};
 ghost use Rattle.cuts.specs.Cuts.{answer, testedBook, cutWith};
@@ -39,7 +39,7 @@ pub fn begin(
     work: usize,
     tokens: &[u32],
 ) -> Outcome
-    ensures { λ r. ⌜ answer r (written 0 (now (tokens .entry))) ≡ cutWith (testedBook (bookOf head (trieOf (now («root_children» .entry)) (now («root_words» .entry)) (now (keys .entry)) (now (children .entry)) (now (words .entry))) (now (frequencies .entry)) (now (logarithms .entry)))) work (now (tokens .entry)) (λ cs. answer Done) (now (sentence .entry)) ⌝ }
+    ensures { λ r. ⌜ answer r (written 0 (was tokens)) ≡ cutWith (testedBook (bookLent head «root_children» «root_words» keys children words frequencies logarithms)) work (was tokens) (λ cs. answer Done) (was sentence) ⌝ }
 {
     if !book::is_allowed(
         root_children.len(),

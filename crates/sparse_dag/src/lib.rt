@@ -5,12 +5,12 @@
 //! records in two slices, position after position, and for each position the place of its first edge, with one more at the
 //! block's end. So the walk can run out of room, and in a damaged book it can meet damage; it answers which it met first.
 ghost use mathlib.Core.Path.{_≡_};
-ghost use mathlib.Core.List.{List};
-ghost use Prim.Native.Nat.{ℕ, _-_, _≤_, _<_};
+ghost use Prim.Native.Nat.{_-_, _≤_, _<_};
 ghost use lib.ListN.{length, take, drop};
-ghost use Rattle.trie.specs.Trie.{SlotCount, log2, trieOf};
+ghost use Rattle.trie.specs.Trie.{SlotCount, log2};
+ghost use Rattle.trie.specs.Lent.{was, became, trieLent};
 ghost use Rattle.walk.specs.Walk.{EquallyLong};
-ghost use Rattle.book.specs.Returns.{Book};
+ghost use Rattle.book.specs.Returns.{Book, longestText};
 ghost use Rattle.book.specs.Prefixes.{wordsFrom};
 ghost use Rattle.cuts.specs.Slices.{Characters};
 ghost use Rattle.sparse_dag.specs.Edges.{Kept, WalkedAt, WalkedBlock};
@@ -48,11 +48,11 @@ fn prefixes_at(
 ) -> Prefixes
     requires { ⌜ EquallyLong (now «root_children») (now «root_words») (now keys) (now children) (now words) ⌝ }
     requires { ⌜ SlotCount (length (now keys)) × (shift ≡ 64 - log2 (length (now keys))) ⌝ }
-    requires { ⌜ (at < n) × (n ≤ length (now chars)) × (n ≤ 16777215) × Characters n (now chars) ⌝ }
+    requires { ⌜ (at < n) × (n ≤ length (now chars)) × (n ≤ longestText) × Characters n (now chars) ⌝ }
     requires { ⌜ (taken ≤ room) × (room ≤ length (now «edge_ends»)) × (room ≤ length (now «edge_records»)) × (used ≤ 1048576) ⌝ }
-    ensures { λ r. ⌜ ((b : Book) → b .trie ≡ trieOf (now («root_children» .entry)) (now («root_words» .entry)) (now (keys .entry)) (now (children .entry)) (now (words .entry)) → b .head .records ≡ used
-        → WalkedAt b n at room taken (wordsFrom b at (drop at (take n (now (chars .entry))))) (now («edge_ends» .exit)) (now («edge_records» .exit)) r) ⌝ }
-    ensures { λ _. ⌜ Kept taken (now («edge_ends» .entry)) (now («edge_ends» .exit)) × Kept taken (now («edge_records» .entry)) (now («edge_records» .exit)) ⌝ }
+    ensures { λ r. ⌜ ((b : Book) → b .trie ≡ trieLent «root_children» «root_words» keys children words → b .head .records ≡ used
+        → WalkedAt b n at room taken (wordsFrom b at (drop at (take n (was chars)))) (became «edge_ends») (became «edge_records») r) ⌝ }
+    ensures { λ _. ⌜ Kept taken (was «edge_ends») (became «edge_ends») × Kept taken (was «edge_records») (became «edge_records») ⌝ }
 {
     let mut count = taken;
     let mut place = ParentRef::Root;
@@ -107,10 +107,10 @@ pub fn for_each_prefix_at_every_char(
 ) -> Prefixes
     requires { ⌜ EquallyLong (now «root_children») (now «root_words») (now keys) (now children) (now words) ⌝ }
     requires { ⌜ SlotCount (length (now keys)) × (shift ≡ 64 - log2 (length (now keys))) ⌝ }
-    requires { ⌜ (n ≤ length (now chars)) × (n ≤ 16777215) × (n < length (now starts)) × Characters n (now chars) ⌝ }
+    requires { ⌜ (n ≤ length (now chars)) × (n ≤ longestText) × (n < length (now starts)) × Characters n (now chars) ⌝ }
     requires { ⌜ (room ≤ length (now «edge_ends»)) × (room ≤ length (now «edge_records»)) × (used ≤ 1048576) ⌝ }
-    ensures { λ r. ⌜ ((b : Book) → b .trie ≡ trieOf (now («root_children» .entry)) (now («root_words» .entry)) (now (keys .entry)) (now (children .entry)) (now (words .entry)) → b .head .records ≡ used → used ≤ length (b .logarithms)
-        → WalkedBlock b n room (take n (now (chars .entry))) (now (starts .exit)) (now («edge_ends» .exit)) (now («edge_records» .exit)) r) ⌝ }
+    ensures { λ r. ⌜ ((b : Book) → b .trie ≡ trieLent «root_children» «root_words» keys children words → b .head .records ≡ used → used ≤ length (b .logarithms)
+        → WalkedBlock b n room (take n (was chars)) (became starts) (became «edge_ends») (became «edge_records») r) ⌝ }
 {
     starts[0] = 0;
     let mut count: usize = 0;

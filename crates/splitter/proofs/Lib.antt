@@ -3,3 +3,4 @@ pub mod Classes
 pub mod Blocks
 pub mod Recordings
 pub mod Sentences
+pub mod OneKind

@@ -1,8 +1,8 @@
 -- A sentence by its blocks: what a cut that goes block by block comes to, whatever it does with a block. A run that is recorded is the first block of
--- what is left (`Recorded`); the cut is that block's, and then, where its outcome is 0, that of the rest.
+-- what is left (`Recorded`); the cut is that block's, and then, where it is done, that of the rest.
 -- Assumes nothing.
 use mathlib.Core.Path.{_≡_, refl, sym, ap, _∙_}
-use mathlib.Core.Bool.{Bool}
+use mathlib.Core.Bool.{Bool, true, false}
 use mathlib.Core.List.{List}
 use mathlib.Core.Option.{Option, none, some, IsSome}
 use Prim.Native.Nat.{ℕ, _+_, _≤_}
@@ -14,9 +14,9 @@ use Rattle.utf8.specs.Text.{charsOf, charsFrom}
 use Rattle.utf8.proofs.Texts.{no-more-than-bytes}
 use Rattle.utf8.proofs.Positions.{from-start}
 use Rattle.book.specs.declared.Outcome.the-variants.{Done}
-use Rattle.book.specs.Returns.{numberOf}
+use Rattle.book.specs.Returns.{isDone}
 use Rattle.cuts.specs.Blocks.{Block, blocksOf}
-use Rattle.cuts.specs.Slices.{baseAt, blockOf}
+use Rattle.cuts.specs.Slices.{blockOf, Placed}
 use Rattle.cuts.specs.Tokens.{Written}
 use Rattle.cuts.specs.Cuts.{CutAnswer, answer, andThen, Base, cutBlocks}
 use Rattle.cuts.proofs.Sequence.{goes-on, stops}
@@ -44,6 +44,10 @@ text-bytes s = text-length s (charsOf s) refl
 
 -- ---- a run among what is left
 
+-- after so many characters and bytes
+abbrev pub baseAt : ℕ → ℕ → Base
+baseAt chars bytes = record { chars = chars; bytes = bytes }
+
 module _ (class : ℕ → Bool) (s : List ℕ) (at : ℕ) (r : Run) (chars offsets : List ℕ) (run : Recorded class s at r chars offsets) where
   run-length : length (take (r .chars) chars) ≡ r .chars
   run-length = length-take-le (r .chars) chars (omega (arith, run .fits))
@@ -51,6 +55,10 @@ module _ (class : ℕ → Bool) (s : List ℕ) (at : ℕ) (r : Run) (chars offse
   -- the characters before the rest
   pub passed : (base whole : ℕ) → base + length (textFrom s at) ≡ whole → base + r .chars + length (textFrom s (r .end)) ≡ whole
   passed base whole e = let c = run .counted in omega arith
+
+  -- where it stands, after so many characters
+  pub placed : (base : ℕ) → Placed (baseAt base at) base (take (r .chars) chars) offsets
+  placed base = record { after = refl; from = run .offset }
 
   -- its block, and then the rest
   module _ (one : Base → Block → Written → CutAnswer) (base : ℕ) (w : Written) where
@@ -63,10 +71,10 @@ module _ (class : ℕ → Bool) (s : List ℕ) (at : ℕ) (r : Run) (chars offse
         ∙ ap (λ (k : ℕ). andThen (one (baseAt base at) (blockOf (r .matched) (take (r .chars) chars)) w) (cutBlocks one (baseAt (base + r .chars) k) (blocksOf class (textFrom s (r .end))))) (sym (run .bytes))
 
     module _ (a : CutAnswer) (cut : a ≡ one (baseAt base at) (blockOf (r .matched) (take (r .chars) chars)) w) where
-      pub block-stops : (numberOf (a .outcome) ≡ 0 → ⊥) → a ≡ cutBlocks one (baseAt base at) (blocksOf class (textFrom s at)) w
+      pub block-stops : isDone (a .outcome) ≡ false → a ≡ cutBlocks one (baseAt base at) (blocksOf class (textFrom s at)) w
       block-stops other = sym (block-first ∙ rw (← cut) (stops a (cutBlocks one (baseAt (base + r .chars) (r .end)) (blocksOf class (textFrom s (r .end)))) other))
 
-      pub block-goes-on : numberOf (a .outcome) ≡ 0
+      pub block-goes-on : isDone (a .outcome) ≡ true
           → cutBlocks one (baseAt (base + r .chars) (r .end)) (blocksOf class (textFrom s (r .end))) (a .written) ≡ cutBlocks one (baseAt base at) (blocksOf class (textFrom s at)) w
       block-goes-on done = sym (block-first ∙ rw (← cut) (goes-on a (cutBlocks one (baseAt (base + r .chars) (r .end)) (blocksOf class (textFrom s (r .end)))) done))
 

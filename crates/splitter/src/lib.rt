@@ -7,7 +7,9 @@ ghost use mathlib.Core.Path.{_≡_};
 ghost use mathlib.Core.Option.{IsSome};
 ghost use Prim.Native.Nat.{_≤_, _<_};
 ghost use lib.ListN.{length};
+ghost use Rattle.trie.specs.Lent.{was, became};
 ghost use Rattle.utf8.specs.Text.{charsFrom};
+ghost use Rattle.book.specs.Returns.{longestText};
 ghost use Rattle.splitter.specs.Runs.{classOf, textFrom, Recorded};
 
 // The class of characters by which a sentence is split.
@@ -46,9 +48,9 @@ pub fn next_recording(
     chars: &mut [u32],
     offsets: &mut [u32],
 ) -> Run
-    requires { ⌜ (at < length (now s)) × (length (now s) ≤ 16777215) × IsSome (charsFrom (now s) at) ⌝ }
+    requires { ⌜ (at < length (now s)) × (length (now s) ≤ longestText) × IsSome (charsFrom (now s) at) ⌝ }
     requires { ⌜ (length (textFrom (now s) at) < length (now chars)) × (length (textFrom (now s) at) < length (now offsets)) ⌝ }
-    ensures { λ r. ⌜ Recorded (classOf class) (now (s .entry)) at r (now (chars .exit)) (now (offsets .exit)) ⌝ }
+    ensures { λ r. ⌜ Recorded (classOf class) (was s) at r (became chars) (became offsets) ⌝ }
 {
     let mut matched = false;
     let mut n: usize = 0;

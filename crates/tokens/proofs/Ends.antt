@@ -1,16 +1,14 @@
--- Where a run ends: the loops of `letters_end` and `joining_end`. What is kept at each turn is `Running`: all positions passed are in the run. A position
+-- Where a run ends: the loops of `joining_end` and of `block::letters_end`. What is kept at each turn is `Running`: all positions passed are in the run. A position
 -- that is in the run is passed, and at the first that is not, or at the block's end, the run is maximal.
 -- Assumes nothing.
 use Prim.Native.Nat.{ℕ, _+_, _≤_, _<_}
-use mathlib.Core.Bool.{Bool, true, false, not, _&&_}
+use mathlib.Core.Bool.{Bool, true, false, not}
 use mathlib.Core.List.{List}
 use mathlib.Core.Path.{_≡_, sym, _∙_, subst}
 use native.Mathlib.Nat.{le-refl}
 use native.Mathlib.Omega.{arith}
-use borrow.Author.Tests.{eq-eqb, ne-eqb, not-true, not-false}
-use lib.Dec.{eqb}
+use borrow.Author.Tests.{not-true, not-false}
 use lib.ListN.{getD}
-use Rattle.classes.specs.Blocks.{asciiLetterOrDigit}
 use Rattle.classes.specs.Tokens.{joins}
 use Rattle.score.proofs.Tests.{by-leb}
 use Rattle.tokens.specs.Runs.{MaximalRun}
@@ -40,26 +38,6 @@ module _ {holds : ℕ → Bool} {n from y : ℕ} (here : Running holds n from y)
 
   pub run-ends : n ≤ y → MaximalRun holds n from y
   run-ends h = record { forward = here .forward; inside = here .inside; all = here .all; no-more = λ g. absurd (omega arith) }
-
--- ---- steps of one ASCII letter or digit
-
-abbrev pub letterAt : List ℕ → List ℕ → ℕ → Bool
-letterAt chars ends i = eqb (getD ends i 0) (i + 1) && asciiLetterOrDigit (getD chars i 0)
-
-module _ (chars ends : List ℕ) (y : ℕ) where
-  pub longer-step : (getD ends y 0 ≡ y + 1 → ⊥) → letterAt chars ends y ≡ false
-  longer-step e = rw (ne-eqb (getD ends y 0) (y + 1) e)
-
-  -- a step of one character, which `is_ascii_alphanumeric` answers with r
-  module _ (one : getD ends y 0 ≡ y + 1) (r : Bool) (class : r ≡ asciiLetterOrDigit (getD chars y 0)) where
-    by-class : letterAt chars ends y ≡ r
-    by-class = rw (eq-eqb (getD ends y 0) (y + 1) one, class)
-
-    pub letter-step : r ≡ true → letterAt chars ends y ≡ true
-    letter-step e = by-class ∙ e
-
-    pub other-step : r ≡ false → letterAt chars ends y ≡ false
-    other-step e = by-class ∙ e
 
 -- ---- characters that join
 

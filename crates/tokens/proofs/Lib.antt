@@ -3,5 +3,4 @@ pub mod Places
 pub mod Turns
 pub mod Ends
 pub mod Runs
-pub mod Routes
 pub mod Unmatched

@@ -9,11 +9,9 @@ use lib.ListN.{length, getD, set}
 use lib.Seq.{sets}
 use Rattle.book.specs.declared.Outcome.the-variants.{Done, TokensFull}
 use Rattle.cuts.specs.declared.Token.{Token}
-use Rattle.cuts.specs.Slices.{Offsets}
-use Rattle.cuts.specs.Tokens.{span, tokenOf, numbersOf, tokenWidth}
-use Rattle.cuts.specs.Cuts.{answer, putSpans}
-use Rattle.cuts.specs.Slices.{baseAt}
-use Rattle.cuts.specs.Tokens.{written}
+use Rattle.cuts.specs.Slices.{Placed}
+use Rattle.cuts.specs.Tokens.{span, tokenOf, numbersOf, tokenWidth, written}
+use Rattle.cuts.specs.Cuts.{answer, Base, putSpans}
 use Rattle.cuts.proofs.Sequence.{put-one, put-refused}
 
 -- ---- `put_token`
@@ -36,24 +34,24 @@ tokenFrom base offsets x y = record {
   bytes = record { 0 = getD offsets x 0; 1 = getD offsets y 0 };
 }
 
-module _ (base bytes x y count : ℕ) (chars offsets area : List ℕ) where
+module _ (place : Base) (base x y count : ℕ) (chars offsets area : List ℕ) where
   -- it is the token of the span
-  token-of : Offsets bytes chars offsets → x ≤ y → y ≤ length chars → tokenFrom base offsets x y ≡ tokenOf base bytes chars (span x y)
+  token-of : Placed place base chars offsets → x ≤ y → y ≤ length chars → tokenFrom base offsets x y ≡ tokenOf (place .chars) (place .bytes) chars (span x y)
   unfolding tokenOf
-  token-of known forward inside = rw (known x (omega arith), known y inside)
+  token-of known forward inside = rw (known .from x (omega arith), known .from y inside, known .after)
 
   pub emitted : (after : List ℕ)
       → count < length area / tokenWidth
       → after ≡ sets area (count * tokenWidth) (numbersOf (tokenFrom base offsets x y))
       → x ≤ y
-      → Offsets bytes chars offsets
+      → Placed place base chars offsets
       → y ≤ length chars
-      → answer Done (written (count + 1) after) ≡ putSpans (baseAt base bytes) chars (written count area) (span x y ∷ [])
-  emitted after place e forward known inside =
+      → answer Done (written (count + 1) after) ≡ putSpans place chars (written count area) (span x y ∷ [])
+  emitted after free e forward known inside =
       ap (λ (l : List ℕ). answer Done (written (count + 1) l)) e
       ∙ ap (λ (t : Token). answer Done (written (count + 1) (sets area (count * tokenWidth) (numbersOf t)))) (token-of known forward inside)
-      ∙ sym (put-one (baseAt base bytes) chars (written count area) (span x y) (lt-ltb count (length area / tokenWidth) place))
+      ∙ sym (put-one place chars (written count area) (span x y) (lt-ltb count (length area / tokenWidth) free))
 
   pub no-place : length area / tokenWidth ≤ count
-      → answer TokensFull (written count area) ≡ putSpans (baseAt base bytes) chars (written count area) (span x y ∷ [])
-  no-place full = sym (put-refused (baseAt base bytes) chars (written count area) (span x y) (le-ltb count (length area / tokenWidth) full))
+      → answer TokensFull (written count area) ≡ putSpans place chars (written count area) (span x y ∷ [])
+  no-place full = sym (put-refused place chars (written count area) (span x y) (le-ltb count (length area / tokenWidth) full))

@@ -1,71 +1,79 @@
--- A turn of the loops of `cut_route`, `cut_unmatched` and `cut_all_unmatched`, which are alike: a span is written, and the rest of the block's spans
--- start where it ends. What is kept at each turn is `Putting`: the spans from x on, put after what is written so far, come to what all spans of the
--- block come to, at whatever byte the block starts.
+-- A turn of the loops of `cut_unmatched`, `cut_all_unmatched` and `block::cut_route`, which are alike: some spans are written, and the rest of the block's
+-- spans start where they end. What is kept at each turn is `Putting`: the spans from x on, put after what is written so far, come to what all spans of
+-- the block come to, wherever the block stands.
 -- Assumes nothing.
 use Prim.Native.Nat.{ℕ, _≤_, _<_}
-use mathlib.Core.List.{List, [], _∷_}
+use mathlib.Core.Bool.{true, false}
+use mathlib.Core.List.{List, [], _∷_, _++_}
 use mathlib.Core.Path.{_≡_, refl, sym, ap, _∙_}
 use native.Mathlib.Omega.{arith}
 use lib.ListN.{length}
 use Rattle.book.specs.declared.Outcome.the-variants.{Done}
-use Rattle.book.specs.Returns.{numberOf}
+use Rattle.book.specs.Returns.{isDone}
 use Rattle.cuts.specs.declared.Cut.{Cut}
-use Rattle.cuts.specs.Slices.{Offsets}
-use Rattle.cuts.specs.Tokens.{Span, span}
-use Rattle.cuts.specs.Cuts.{CutAnswer, answer, cutAnswer, andThen, putSpans}
-use Rattle.cuts.specs.Slices.{baseAt}
-use Rattle.cuts.specs.Tokens.{written}
-use Rattle.cuts.proofs.Sequence.{goes-on, stops, put-none, put-then}
+use Rattle.cuts.specs.Slices.{Placed}
+use Rattle.cuts.specs.Tokens.{Span, span, written}
+use Rattle.cuts.specs.Cuts.{CutAnswer, answer, cutAnswer, andThen, Base, putSpans}
+use Rattle.cuts.proofs.Sequence.{goes-on, stops, put-none, put-both}
 
--- a turn from x goes to y: the first span left ends there
-pub record Turn (n : ℕ) (rest : ℕ → List Span) (x y : ℕ) : Type 0 where
+-- a turn from x goes to y: these are the first spans left, and the others start there
+pub record Turning (n : ℕ) (rest : ℕ → List Span) (x y : ℕ) (these : List Span) : Type 0 where
   pub forward : x < y
   pub inside : y ≤ n
-  pub first : rest x ≡ span x y ∷ rest y
+  pub first : rest x ≡ these ++ rest y
+
+-- the first span left ends there
+abbrev pub Turn : ℕ → (ℕ → List Span) → ℕ → ℕ → Type 0
+Turn n rest x y = Turning n rest x y (span x y ∷ [])
 
 -- a block's characters and their offsets, the spans from each of its positions on, and what was written before it
 module _ (chars offsets : List ℕ) (n base : ℕ) (rest : ℕ → List Span) (area₀ : List ℕ) (count₀ : ℕ) where
   -- an answer is that of all the block's spans
   abbrev pub All : CutAnswer → Type 0
-  All a = (spans : List Span) → rest 0 ≡ spans → (bytes : ℕ) → Offsets bytes chars offsets → a ≡ putSpans (baseAt base bytes) chars (written count₀ area₀) spans
+  All a = (spans : List Span) → rest 0 ≡ spans → (place : Base) → Placed place base chars offsets → a ≡ putSpans place chars (written count₀ area₀) spans
 
   pub record Putting (area : List ℕ) (count x : ℕ) : Type 0 where
     pub inside : x ≤ n
     pub long : length area ≡ length area₀
-    pub same : (bytes : ℕ) → Offsets bytes chars offsets
-        → putSpans (baseAt base bytes) chars (written count area) (rest x) ≡ putSpans (baseAt base bytes) chars (written count₀ area₀) (rest 0)
+    pub same : (place : Base) → Placed place base chars offsets
+        → putSpans place chars (written count area) (rest x) ≡ putSpans place chars (written count₀ area₀) (rest 0)
 
   pub begins : Putting area₀ count₀ 0
-  begins = record { inside = omega arith; long = refl; same = λ bytes known. refl }
+  begins = record { inside = omega arith; long = refl; same = λ place known. refl }
 
   module _ {area : List ℕ} {count x : ℕ} (here : Putting area count x) where
     -- no span is left
     pub ends : rest x ≡ [] → All (answer Done (written count area))
-    ends none spans all bytes known =
-        sym (put-none (baseAt base bytes) chars (written count area))
-        ∙ ap (putSpans (baseAt base bytes) chars (written count area)) (sym none)
-        ∙ here .same bytes known
-        ∙ ap (putSpans (baseAt base bytes) chars (written count₀ area₀)) all
+    ends none spans all place known =
+        sym (put-none place chars (written count area))
+        ∙ ap (putSpans place chars (written count area)) (sym none)
+        ∙ here .same place known
+        ∙ ap (putSpans place chars (written count₀ area₀)) all
 
-    -- a span from x up to y, which `emit_span` answers with r
-    module _ {y : ℕ} (turn : Turn n rest x y) (long : length chars ≡ n) (r : Cut) (after : List ℕ)
-        (put : (bytes : ℕ) (cs : List ℕ) → Offsets bytes cs offsets → y ≤ length cs
-        → cutAnswer r after ≡ putSpans (baseAt base bytes) cs (written count area) (span x y ∷ [])) where
-      with-rest : (bytes : ℕ) → Offsets bytes chars offsets
-          → andThen (cutAnswer r after) (λ v. putSpans (baseAt base bytes) chars v (rest y))
-          ≡ putSpans (baseAt base bytes) chars (written count₀ area₀) (rest 0)
-      with-rest bytes known =
-          ap (λ (a : CutAnswer). andThen a (λ v. putSpans (baseAt base bytes) chars v (rest y))) (put bytes chars known (omega (arith, long, turn .inside)))
-          ∙ sym (put-then (baseAt base bytes) chars (written count area) (span x y) (rest y))
-          ∙ ap (putSpans (baseAt base bytes) chars (written count area)) (sym (turn .first))
-          ∙ here .same bytes known
+    -- some spans, which a call answers with r
+    module _ {y : ℕ} {these : List Span} (turn : Turning n rest x y these) (r : Cut) (after : List ℕ)
+        (put : (place : Base) → Placed place base chars offsets → cutAnswer r after ≡ putSpans place chars (written count area) these) where
+      with-rest : (place : Base) → Placed place base chars offsets
+          → andThen (cutAnswer r after) (λ v. putSpans place chars v (rest y))
+          ≡ putSpans place chars (written count₀ area₀) (rest 0)
+      with-rest place known =
+          ap (λ (a : CutAnswer). andThen a (λ v. putSpans place chars v (rest y))) (put place known)
+          ∙ sym (put-both place chars (written count area) these (rest y))
+          ∙ ap (putSpans place chars (written count area)) (sym (turn .first))
+          ∙ here .same place known
 
-      pub refused : (numberOf (r .outcome) ≡ 0 → ⊥) → All (cutAnswer r after)
-      refused e spans all bytes known =
-          sym (stops (cutAnswer r after) (λ v. putSpans (baseAt base bytes) chars v (rest y)) e)
-          ∙ with-rest bytes known
-          ∙ ap (putSpans (baseAt base bytes) chars (written count₀ area₀)) all
+      pub refused : isDone (r .outcome) ≡ false → All (cutAnswer r after)
+      refused e spans all place known =
+          sym (stops (cutAnswer r after) (λ v. putSpans place chars v (rest y)) e)
+          ∙ with-rest place known
+          ∙ ap (putSpans place chars (written count₀ area₀)) all
 
-      pub one-more : numberOf (r .outcome) ≡ 0 → length after ≡ length area → Putting after (r .count) y
+      pub one-more : isDone (r .outcome) ≡ true → length after ≡ length area → Putting after (r .count) y
       one-more e kept =
-          record { inside = turn .inside; long = kept ∙ here .long; same = λ bytes known. sym (goes-on (cutAnswer r after) (λ v. putSpans (baseAt base bytes) chars v (rest y)) e) ∙ with-rest bytes known }
+          record { inside = turn .inside; long = kept ∙ here .long; same = λ place known. sym (goes-on (cutAnswer r after) (λ v. putSpans place chars v (rest y)) e) ∙ with-rest place known }
+
+-- what `emit_span` answers of a span that ends at y, of a block of n characters
+pub emitted-in : (chars offsets : List ℕ) (n base x y count : ℕ) (area : List ℕ) (r : Cut) (after : List ℕ) → length chars ≡ n → y ≤ n
+    → ((place : Base) (cs : List ℕ) → Placed place base cs offsets → y ≤ length cs → cutAnswer r after ≡ putSpans place cs (written count area) (span x y ∷ []))
+    → (place : Base) → Placed place base chars offsets → cutAnswer r after ≡ putSpans place chars (written count area) (span x y ∷ [])
+emitted-in chars offsets n base x y count area r after long inside put place known = put place chars known (omega arith)

@@ -1,4 +1,4 @@
-//! Tokens: a block's words into the token area (lib.rs, `cut_route`, and the unmatched runs of `cut_each` and `cut_all`).
+//! Tokens into the token area, and a block's tokens outside the class (lib.rs, the unmatched runs of `cut_each` and `cut_all`).
 //!
 //! The Rust pushes tokens that borrow from the sentence. Here the token area is one flat slice of numbers that the caller lends,
 //! four numbers a token. A block is given by its characters, the byte offset of each of them and of its end, and the number of
@@ -7,13 +7,14 @@
 ghost use mathlib.Core.Path.{_≡_};
 ghost use mathlib.Core.List.{List, [], _∷_};
 ghost use Prim.Native.Nat.{ℕ, _+_, _*_, _≤_, _<_};
-ghost use lib.ListN.{length, getD, take};
+ghost use lib.ListN.{length, take};
 ghost use lib.Seq.{sets};
-ghost use Rattle.route.specs.Route.{Best};
-ghost use Rattle.cuts.specs.Slices.{baseAt, Offsets};
-ghost use Rattle.cuts.specs.Tokens.{span, cutRoute, singly, runsOf, numbersOf, tokenWidth, written};
-ghost use Rattle.cuts.specs.Cuts.{cutAnswer, putSpans};
-ghost use Rattle.tokens.specs.Runs.{tokenAt, Forward, HasEnds, letterRun, joiningRun};
+ghost use Rattle.trie.specs.Lent.{was, became};
+ghost use Rattle.book.specs.Returns.{longestText};
+ghost use Rattle.cuts.specs.Slices.{Placed};
+ghost use Rattle.cuts.specs.Tokens.{span, singly, runsOf, numbersOf, tokenWidth, written};
+ghost use Rattle.cuts.specs.Cuts.{Base, cutAnswer, putSpans};
+ghost use Rattle.tokens.specs.Runs.{tokenAt, joiningRun};
 use book::Outcome;
 use cuts::ByteOffsets;
 use cuts::CharOffsets;
@@ -23,7 +24,7 @@ use cuts::Token;
 // Writes a token at its place.
 fn put_token(tokens: &mut [u32], count: usize, token: Token)
     requires { ⌜ count * tokenWidth + tokenWidth ≤ length (now tokens) ⌝ }
-    ensures { λ _. ⌜ now (tokens .exit) ≡ sets (now (tokens .entry)) (count * tokenWidth) (numbersOf token) ⌝ }
+    ensures { λ _. ⌜ became tokens ≡ sets (was tokens) (count * tokenWidth) (numbersOf token) ⌝ }
 {
     let at = count * cuts::TOKEN_WIDTH;
     tokens[at] = token.chars.0;
@@ -35,7 +36,7 @@ fn put_token(tokens: &mut [u32], count: usize, token: Token)
 // The token that stands at a place.
 pub fn token_at(tokens: &[u32], i: usize) -> Token
     requires { ⌜ i * tokenWidth + tokenWidth ≤ length (now tokens) ⌝ }
-    ensures { λ r. ⌜ r ≡ tokenAt (now (tokens .entry)) i ⌝ }
+    ensures { λ r. ⌜ r ≡ tokenAt (was tokens) i ⌝ }
 {
     let at = i * cuts::TOKEN_WIDTH;
     Token {
@@ -53,9 +54,9 @@ pub fn emit_span(
     tokens: &mut [u32],
     count: usize,
 ) -> Cut
-    requires { ⌜ (x ≤ y) × (y < length (now offsets)) × (base + y ≤ 16777215) ⌝ }
-    ensures { λ r. ⌜ ((bytes : ℕ) (chars : List ℕ) → Offsets bytes chars (now (offsets .entry)) → y ≤ length chars
-        → cutAnswer r (now (tokens .exit)) ≡ putSpans (baseAt base bytes) chars (written count (now (tokens .entry))) (span x y ∷ [])) ⌝ }
+    requires { ⌜ (x ≤ y) × (y < length (now offsets)) × (base + y ≤ longestText) ⌝ }
+    ensures { λ r. ⌜ ((place : Base) (chars : List ℕ) → Placed place base chars (was offsets) → y ≤ length chars
+        → cutAnswer r (became tokens) ≡ putSpans place chars (written count (was tokens)) (span x y ∷ [])) ⌝ }
 {
     if count < tokens.len() / cuts::TOKEN_WIDTH {
         put_token(
@@ -77,62 +78,6 @@ pub fn emit_span(
     }
 }
 
-// The end of the run of route steps of one ASCII letter or digit that goes on at a position.
-fn letters_end(chars: &[u32], ends: &[u32], n: usize, from: usize) -> usize
-    requires { ⌜ (from ≤ n) × (n ≤ length (now chars)) × (n ≤ length (now ends)) ⌝ }
-    ensures { λ r. ⌜ letterRun (now (chars .entry)) (now (ends .entry)) n from r ⌝ }
-{
-    let mut y = from;
-    while y < n {
-        if ends[y] as usize != y + 1 {
-            break;
-        }
-        if !classes::is_ascii_alphanumeric(chars[y]) {
-            break;
-        }
-        y += 1;
-    }
-    y
-}
-
-// The tokens of a block of n characters along its route: steps of one ASCII letter or digit join.
-pub fn cut_route(
-    chars: &[u32],
-    offsets: &[u32],
-    ends: &[u32],
-    n: usize,
-    base: u32,
-    tokens: &mut [u32],
-    count: usize,
-) -> Cut
-    requires { ⌜ (n ≤ length (now chars)) × (n < length (now offsets)) × (n ≤ length (now ends)) × (base + n ≤ 16777215) ⌝ }
-    requires { ⌜ Forward n (now ends) ⌝ }
-    ensures { λ r. ⌜ ((bytes : ℕ) (route : List Best) → Offsets bytes (take n (now (chars .entry))) (now (offsets .entry)) → HasEnds n route (now (ends .entry))
-        → cutAnswer r (now (tokens .exit)) ≡ putSpans (baseAt base bytes) (take n (now (chars .entry))) (written count (now (tokens .entry))) (cutRoute (take n (now (chars .entry))) route)) ⌝ }
-{
-    let mut count = count;
-    let mut x: usize = 0;
-    while x < n {
-        let mut y = ends[x] as usize;
-        if y == x + 1 {
-            if classes::is_ascii_alphanumeric(chars[x]) {
-                y = letters_end(chars, ends, n, y);
-            }
-        }
-        let put = emit_span(offsets, base, x, y, tokens, count);
-        let outcome = put.outcome;
-        count = put.count;
-        if book::number_of(outcome) != 0 {
-            return Cut { outcome, count };
-        }
-        x = y;
-    }
-    Cut {
-        outcome: Outcome::Done,
-        count,
-    }
-}
-
 // The tokens of a block of n characters outside the class of `cut`: each character is one, and CR LF is one.
 pub fn cut_unmatched(
     chars: &[u32],
@@ -142,9 +87,9 @@ pub fn cut_unmatched(
     tokens: &mut [u32],
     count: usize,
 ) -> Cut
-    requires { ⌜ (n ≤ length (now chars)) × (n < length (now offsets)) × (base + n ≤ 16777215) ⌝ }
-    ensures { λ r. ⌜ ((bytes : ℕ) → Offsets bytes (take n (now (chars .entry))) (now (offsets .entry))
-        → cutAnswer r (now (tokens .exit)) ≡ putSpans (baseAt base bytes) (take n (now (chars .entry))) (written count (now (tokens .entry))) (singly 0 (take n (now (chars .entry))))) ⌝ }
+    requires { ⌜ (n ≤ length (now chars)) × (n < length (now offsets)) × (base + n ≤ longestText) ⌝ }
+    ensures { λ r. ⌜ ((place : Base) → Placed place base (take n (was chars)) (was offsets)
+        → cutAnswer r (became tokens) ≡ putSpans place (take n (was chars)) (written count (was tokens)) (singly 0 (take n (was chars)))) ⌝ }
 {
     let mut count = count;
     let mut x: usize = 0;
@@ -160,7 +105,7 @@ pub fn cut_unmatched(
         let put = emit_span(offsets, base, x, y, tokens, count);
         let outcome = put.outcome;
         count = put.count;
-        if book::number_of(outcome) != 0 {
+        if !book::is_done(outcome) {
             return Cut { outcome, count };
         }
         x = y;
@@ -174,7 +119,7 @@ pub fn cut_unmatched(
 // The end of the run of joining characters that goes on at a position.
 fn joining_end(chars: &[u32], n: usize, from: usize) -> usize
     requires { ⌜ (from ≤ n) × (n ≤ length (now chars)) ⌝ }
-    ensures { λ r. ⌜ joiningRun (now (chars .entry)) n from r ⌝ }
+    ensures { λ r. ⌜ joiningRun (was chars) n from r ⌝ }
 {
     let mut y = from;
     while y < n {
@@ -196,9 +141,9 @@ pub fn cut_all_unmatched(
     tokens: &mut [u32],
     count: usize,
 ) -> Cut
-    requires { ⌜ (n ≤ length (now chars)) × (n < length (now offsets)) × (base + n ≤ 16777215) ⌝ }
-    ensures { λ r. ⌜ ((bytes : ℕ) → Offsets bytes (take n (now (chars .entry))) (now (offsets .entry))
-        → cutAnswer r (now (tokens .exit)) ≡ putSpans (baseAt base bytes) (take n (now (chars .entry))) (written count (now (tokens .entry))) (runsOf (take n (now (chars .entry))))) ⌝ }
+    requires { ⌜ (n ≤ length (now chars)) × (n < length (now offsets)) × (base + n ≤ longestText) ⌝ }
+    ensures { λ r. ⌜ ((place : Base) → Placed place base (take n (was chars)) (was offsets)
+        → cutAnswer r (became tokens) ≡ putSpans place (take n (was chars)) (written count (was tokens)) (runsOf (take n (was chars)))) ⌝ }
 {
     let mut count = count;
     let mut x: usize = 0;
@@ -210,7 +155,7 @@ pub fn cut_all_unmatched(
         let put = emit_span(offsets, base, x, y, tokens, count);
         let outcome = put.outcome;
         count = put.count;
-        if book::number_of(outcome) != 0 {
+        if !book::is_done(outcome) {
             return Cut { outcome, count };
         }
         x = y;

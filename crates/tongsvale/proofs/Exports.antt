@@ -3,9 +3,9 @@
 use mathlib.Core.Path.{_≡_, refl, sym, ap, _∙_}
 use mathlib.Core.Bool.{Bool, true, false, _&&_}
 use mathlib.Core.List.{List, [], _∷_}
-use Prim.Native.Nat.{ℕ}
+use Prim.Native.Nat.{ℕ, _≤_, _<_}
 use native.Mathlib.Omega.{arith}
-use borrow.Author.Tests.{eq-eqb, ne-eqb}
+use borrow.Author.Tests.{eq-eqb, ne-eqb, le-leb, lt-leb}
 use lib.Dec.{eqb}
 use lib.Ieee.{Float}
 use lib.ListN.{length, set}
@@ -16,10 +16,13 @@ use Rattle.book.specs.declared.Outcome.{Outcome}
 use Rattle.book.specs.declared.Prepared.{Prepared}
 use Rattle.book.specs.declared.Prepared.the-variants.{Ready, Refused}
 use Rattle.book.specs.Areas.{bookOf}
-use Rattle.book.specs.Returns.{numberOf, PrepareAnswer, prepareAnswer, prepareOf, lookupOf}
+use Rattle.book.specs.Returns.{numberOf, PrepareAnswer, prepareAnswer, prepareOf}
 use Rattle.book.specs.Enter.{LoadAnswer, AddAnswer, loadOf, addOf}
-use Rattle.cuts.specs.Cuts.{CutAnswer, testedBook, begins, cutOf, cutAllOf}
-use Rattle.tongsvale.specs.Exports.{headLength, headOf, headNumbers, badAreas, exported, withBook, preparedAs, prepareExport, loadedAs, loadExport, addedAs, addExport, foundNumbers, foundAs, lookupExport, cutNumbers, cutAs, cutExport, cutAllExport}
+use Rattle.book.specs.Numbers.{foundReturns, lookupReturns}
+use Rattle.cuts.specs.declared.TokenizeMode.{TokenizeMode}
+use Rattle.cuts.specs.declared.TokenizeMode.the-variants.{Default, Search}
+use Rattle.cuts.specs.Cuts.{CutAnswer, testedBook, begins, cutOf, cutForSearchOf, tokenizeOf, cutAllOf}
+use Rattle.tongsvale.specs.Exports.{headLength, headOf, headNumbers, badAreas, exported, preparedAs, prepareExport, loadExport, addExport, foundNumbers, foundAs, lookupExport, cutNumbers, cutWhere, cutExport, cutForSearchExport, searchMode, isMode, modeOf, tokenizeExport, cutAllExport, cutBegins}
 
 module _ (h : List ℕ) (t : CharTrie) (f : List ℕ) (l : List Float) where
   -- ---- a head of another length
@@ -41,28 +44,20 @@ module _ (h : List ℕ) (t : CharTrie) (f : List ℕ) (l : List Float) where
     unfolding lookupExport
     lookup-refused word = rw (number, ne-eqb (length h) headLength other)
 
-    pub cut-refused : (work room : ℕ) (area sentence : List ℕ) → cutNumbers n 0 area ≡ cutExport h t f l work room area sentence
-    unfolding cutExport
-    cut-refused work room area sentence = rw (number, ne-eqb (length h) headLength other)
-
-    pub cut-all-refused : (work : ℕ) (area sentence : List ℕ) → cutNumbers n 0 area ≡ cutAllExport h t f l work area sentence
-    unfolding cutAllExport
-    cut-all-refused work area sentence = rw (number, ne-eqb (length h) headLength other)
-
   -- ---- a head of four numbers
 
   module _ (four : length h ≡ headLength) where
-    prepare-by : (a : PrepareAnswer) → a ≡ prepareOf t f l → preparedAs h a (a .prepared) ≡ prepareExport h t f l
+    prepare-by : (a : PrepareAnswer) → a ≡ prepareOf t f l → preparedAs h a ≡ prepareExport h t f l
     unfolding prepareExport
     prepare-by a e = rw (eq-eqb (length h) headLength four, ← e)
 
     pub prepare-ready : (p : Prepared) (t′ : CharTrie) (f′ : List ℕ) (l′ : List Float) → prepareAnswer p t′ f′ l′ ≡ prepareOf t f l → (head : Head) → p ≡ Ready head
         → (h′ : List ℕ) → h′ ≡ headNumbers head → exported 0 0 h′ t′ f′ l′ ≡ prepareExport h t f l
-    prepare-ready p t′ f′ l′ e head ready h′ written = rw written (ap (preparedAs h (prepareAnswer p t′ f′ l′)) (sym ready) ∙ prepare-by (prepareAnswer p t′ f′ l′) e)
+    prepare-ready p t′ f′ l′ e head ready h′ written = rw written (ap (λ (x : Prepared). preparedAs h (prepareAnswer x t′ f′ l′)) (sym ready) ∙ prepare-by (prepareAnswer p t′ f′ l′) e)
 
     pub prepare-not : (p : Prepared) (t′ : CharTrie) (f′ : List ℕ) (l′ : List Float) → prepareAnswer p t′ f′ l′ ≡ prepareOf t f l → (o : Outcome) → p ≡ Refused o
         → (n : ℕ) → n ≡ numberOf o → exported n 0 h t′ f′ l′ ≡ prepareExport h t f l
-    prepare-not p t′ f′ l′ e o told n number = rw number (ap (preparedAs h (prepareAnswer p t′ f′ l′)) (sym told) ∙ prepare-by (prepareAnswer p t′ f′ l′) e)
+    prepare-not p t′ f′ l′ e o told n number = rw number (ap (λ (x : Prepared). preparedAs h (prepareAnswer x t′ f′ l′)) (sym told) ∙ prepare-by (prepareAnswer p t′ f′ l′) e)
 
     -- with the head that was read from it
     module _ (v : Head) (read : v ≡ headOf h) where
@@ -76,28 +71,94 @@ module _ (h : List ℕ) (t : CharTrie) (f : List ℕ) (l : List Float) where
       unfolding addExport
       added-by word frequency a e n number h′ written = rw (number, written, eq-eqb (length h) headLength four, ← read, ← e)
 
-      pub found-by : (word : List ℕ) (found : Found) → found ≡ lookupOf (bookOf v t f l) word → foundAs found ≡ lookupExport h t f l word
+      pub found-by : (word : List ℕ) (found : Found) → foundReturns found ≡ lookupReturns (bookOf v t f l) word
+          → {case : Found} → found ≡ case → foundAs (foundReturns case) ≡ lookupExport h t f l word
       unfolding lookupExport
-      found-by word found e = rw (eq-eqb (length h) headLength four, ← read, ← e)
+      found-by word found e {case} is = ap (λ (x : Found). foundAs (foundReturns x)) (sym is) ∙ ap foundAs e ∙ rw (eq-eqb (length h) headLength four, ← read)
 
-      pub cut-by : (work room : ℕ) (area sentence : List ℕ) (a : CutAnswer) → a ≡ cutOf (bookOf v t f l) work room area sentence → (n : ℕ) → n ≡ numberOf (a .outcome)
-          → cutNumbers n (a .written .count) (a .written .area) ≡ cutExport h t f l work room area sentence
+-- ---- the modes
+
+pub to-search : (mode : ℕ) → mode ≡ searchMode → Search ≡ modeOf mode
+to-search mode e = rw (eq-eqb mode searchMode e)
+
+pub to-default : (mode : ℕ) → (mode ≡ searchMode → ⊥) → Default ≡ modeOf mode
+to-default mode other = rw (ne-eqb mode searchMode other)
+
+-- ---- the cuts
+
+-- head or mode are none
+refused-by : (such : Bool) (area : List ℕ) (a : CutAnswer) (n count : ℕ) → such ≡ false → n ≡ badAreas → count ≡ 0 → cutNumbers n count area ≡ cutWhere such area a
+refused-by such area a n count none number zero = rw (none, number, zero)
+
+-- the call's answer, with the number and the count that are returned
+answered-by : (such : Bool) (area : List ℕ) (a : CutAnswer) (n count : ℕ) → such ≡ true → n ≡ numberOf (a .outcome) → count ≡ a .written .count
+    → cutNumbers n count (a .written .area) ≡ cutWhere such area a
+answered-by such area a n count holds number counted = rw (holds, number, counted)
+
+module _ (h : List ℕ) (t : CharTrie) (f : List ℕ) (l : List Float) where
+  module _ (n count : ℕ) (number : n ≡ badAreas) (zero : count ≡ 0) (work : ℕ) (area sentence : List ℕ) where
+    module _ (other : length h ≡ headLength → ⊥) where
+      pub cut-refused : (room : ℕ) → cutNumbers n count area ≡ cutExport h t f l work room area sentence
       unfolding cutExport
-      cut-by work room area sentence a e n number = rw (number, eq-eqb (length h) headLength four, ← read, ← e)
+      cut-refused room = refused-by (eqb (length h) headLength) area (cutOf (bookOf (headOf h) t f l) work room area sentence) n count (ne-eqb (length h) headLength other) number zero
 
-      pub cut-all-by : (work : ℕ) (area sentence : List ℕ) (a : CutAnswer) → a ≡ cutAllOf (bookOf v t f l) work area sentence → (n : ℕ) → n ≡ numberOf (a .outcome)
-          → cutNumbers n (a .written .count) (a .written .area) ≡ cutAllExport h t f l work area sentence
+      pub cut-for-search-refused : (room : ℕ) → cutNumbers n count area ≡ cutForSearchExport h t f l work room area sentence
+      unfolding cutForSearchExport
+      cut-for-search-refused room = refused-by (eqb (length h) headLength) area (cutForSearchOf (bookOf (headOf h) t f l) work room area sentence) n count (ne-eqb (length h) headLength other) number zero
+
+      pub tokenize-refused : (room mode : ℕ) → cutNumbers n count area ≡ tokenizeExport h t f l mode work room area sentence
+      unfolding tokenizeExport
+      tokenize-refused room mode =
+          refused-by (eqb (length h) headLength && isMode mode) area (tokenizeOf (modeOf mode) (bookOf (headOf h) t f l) work room area sentence) n count (ap (λ (b : Bool). b && isMode mode) (ne-eqb (length h) headLength other)) number zero
+
+      pub cut-all-refused : cutNumbers n count area ≡ cutAllExport h t f l work area sentence
       unfolding cutAllExport
-      cut-all-by work area sentence a e n number = rw (number, eq-eqb (length h) headLength four, ← read, ← e)
+      cut-all-refused = refused-by (eqb (length h) headLength) area (cutAllOf (bookOf (headOf h) t f l) work area sentence) n count (ne-eqb (length h) headLength other) number zero
 
--- a cut that does not begin, by the head that was read
-pub not-begun : (h : List ℕ) (v : Head) (t : CharTrie) (f : List ℕ) (l : List Float) (work : ℕ) (area sentence : List ℕ) → length h ≡ headLength → v ≡ headOf h
-    → (eqb (length h) headLength && begins (testedBook (bookOf (headOf h) t f l)) work area sentence) ≡ false
-    → begins (testedBook (bookOf v t f l)) work area sentence ≡ false
-not-begun h v t f l work area sentence four read e =
-    ap (λ (head : Head). begins (testedBook (bookOf head t f l)) work area sentence) read
-    ∙ sym (ap (λ (b : Bool). b && begins (testedBook (bookOf (headOf h) t f l)) work area sentence) (eq-eqb (length h) headLength four))
-    ∙ e
+    pub mode-refused : length h ≡ headLength → (room mode : ℕ) → searchMode < mode → cutNumbers n count area ≡ tokenizeExport h t f l mode work room area sentence
+    unfolding tokenizeExport
+    mode-refused four room mode beyond =
+        refused-by (eqb (length h) headLength && isMode mode) area (tokenizeOf (modeOf mode) (bookOf (headOf h) t f l) work room area sentence) n count
+        (ap (λ (b : Bool). b && isMode mode) (eq-eqb (length h) headLength four) ∙ lt-leb mode searchMode beyond) number zero
+
+  -- with the head that was read from the slice
+  module _ (four : length h ≡ headLength) (v : Head) (read : v ≡ headOf h) (work : ℕ) (area sentence : List ℕ) where
+    module _ (a : CutAnswer) where
+      pub cut-by : (room : ℕ) → a ≡ cutOf (bookOf v t f l) work room area sentence → (n count : ℕ) → n ≡ numberOf (a .outcome) → count ≡ a .written .count
+          → cutNumbers n count (a .written .area) ≡ cutExport h t f l work room area sentence
+      unfolding cutExport
+      cut-by room e n count number counted =
+          answered-by (eqb (length h) headLength) area a n count (eq-eqb (length h) headLength four) number counted ∙ rw (← read, ← e)
+
+      pub cut-for-search-by : (room : ℕ) → a ≡ cutForSearchOf (bookOf v t f l) work room area sentence → (n count : ℕ) → n ≡ numberOf (a .outcome) → count ≡ a .written .count
+          → cutNumbers n count (a .written .area) ≡ cutForSearchExport h t f l work room area sentence
+      unfolding cutForSearchExport
+      cut-for-search-by room e n count number counted =
+          answered-by (eqb (length h) headLength) area a n count (eq-eqb (length h) headLength four) number counted ∙ rw (← read, ← e)
+
+      pub tokenize-by : (room mode : ℕ) → mode ≤ searchMode → (m : TokenizeMode) → m ≡ modeOf mode → a ≡ tokenizeOf m (bookOf v t f l) work room area sentence
+          → (n count : ℕ) → n ≡ numberOf (a .outcome) → count ≡ a .written .count → cutNumbers n count (a .written .area) ≡ tokenizeExport h t f l mode work room area sentence
+      unfolding tokenizeExport
+      tokenize-by room mode among m is e n count number counted =
+          answered-by (eqb (length h) headLength && isMode mode) area a n count
+          (ap (λ (b : Bool). b && isMode mode) (eq-eqb (length h) headLength four) ∙ le-leb mode searchMode among) number counted
+          ∙ rw (← read, ← is, ← e)
+
+      pub cut-all-by : a ≡ cutAllOf (bookOf v t f l) work area sentence → (n count : ℕ) → n ≡ numberOf (a .outcome) → count ≡ a .written .count
+          → cutNumbers n count (a .written .area) ≡ cutAllExport h t f l work area sentence
+      unfolding cutAllExport
+      cut-all-by e n count number counted =
+          answered-by (eqb (length h) headLength) area a n count (eq-eqb (length h) headLength four) number counted ∙ rw (← read, ← e)
+
+    -- a cut that does not begin
+    pub not-begun : cutBegins h t f l work area sentence ≡ false → begins (testedBook (bookOf v t f l)) work area sentence ≡ false
+    not-begun e =
+        ap (λ (head : Head). begins (testedBook (bookOf head t f l)) work area sentence) read
+        ∙ sym (ap (λ (b : Bool). b && begins (testedBook (bookOf (headOf h) t f l)) work area sentence) (eq-eqb (length h) headLength four))
+        ∙ e
+
+    pub not-begun-by : (mode : ℕ) → mode ≤ searchMode → (isMode mode && cutBegins h t f l work area sentence) ≡ false → begins (testedBook (bookOf v t f l)) work area sentence ≡ false
+    not-begun-by mode among e = not-begun (sym (ap (λ (b : Bool). b && cutBegins h t f l work area sentence) (le-leb mode searchMode among)) ∙ e)
 
 -- ---- the head's four numbers
 

@@ -1,22 +1,23 @@
--- What the exports of the static library answer: the public calls' answers as numbers. A head crosses as four numbers in a slice, records used, slots
--- used, next node and total; a slice of another length is an area outside the sizes, so 1.
+-- What the exports of the static library answer: what the public calls return, in document 01's numbers (`Returned`). A head crosses as four numbers in
+-- a slice, records used, slots used, next node and total; a slice of another length is an area outside the sizes, so 1.
 -- Assumes nothing.
 use Prim.Native.Nat.{ℕ}
-use mathlib.Core.Bool.{cond}
+use mathlib.Core.Bool.{Bool, cond, _&&_}
 use mathlib.Core.List.{List, [], _∷_}
-use lib.Dec.{eqb}
+use lib.Dec.{eqb, leb}
 use lib.Ieee.{Float}
 use lib.ListN.{length, getD}
 use Rattle.trie.specs.Trie.{CharTrie}
 use Rattle.book.specs.declared.Head.{Head}
-use Rattle.book.specs.declared.Found.{Found}
-use Rattle.book.specs.declared.Found.the-variants.{Frequency, Absent, NotLookedUp}
 use Rattle.book.specs.declared.Prepared.{Prepared}
 use Rattle.book.specs.declared.Prepared.the-variants.{Ready, Refused}
 use Rattle.book.specs.Areas.{bookOf}
-use Rattle.book.specs.Returns.{Book, numberOf, PrepareAnswer, prepareOf, lookupOf}
+use Rattle.book.specs.Returns.{Book, numberOf, PrepareAnswer, prepareOf}
 use Rattle.book.specs.Enter.{LoadAnswer, AddAnswer, loadOf, addOf}
-use Rattle.cuts.specs.Cuts.{CutAnswer, cutOf, cutAllOf}
+use Rattle.book.specs.Numbers.{Beside, value, absent, nothing, Returned, preparedReturns, loadedReturns, addedReturns, lookupReturns}
+use Rattle.cuts.specs.declared.TokenizeMode.{TokenizeMode}
+use Rattle.cuts.specs.declared.TokenizeMode.the-variants.{Default, Search}
+use Rattle.cuts.specs.Cuts.{CutAnswer, testedBook, begins, cutOf, cutForSearchOf, tokenizeOf, cutAllOf}
 
 -- ---- the head
 
@@ -33,7 +34,19 @@ headNumbers h = h .records ∷ h .slots ∷ h .next ∷ h .total ∷ []
 abbrev pub badAreas : ℕ
 badAreas = 1
 
--- ---- calls that write a book: the number, what else is returned, and the areas afterwards
+-- ---- what is returned beside the number: whether there is a value (1 or 0), and the value, 0 where there is none
+
+abbrev pub hasValue : Beside → ℕ
+hasValue (value v) = 1
+hasValue absent = 0
+hasValue nothing = 0
+
+abbrev pub valueOf : Beside → ℕ
+valueOf (value v) = v
+valueOf absent = 0
+valueOf nothing = 0
+
+-- ---- calls that write a book: the number, the value, and the areas afterwards
 
 pub record Exported : Type 0 where
   pub number : ℕ
@@ -46,25 +59,32 @@ pub record Exported : Type 0 where
 abbrev pub exported : ℕ → ℕ → List ℕ → CharTrie → List ℕ → List Float → Exported
 exported n v h t f l = record { number = n; value = v; head = h; trie = t; frequencies = f; logarithms = l }
 
-abbrev pub withBook : ℕ → ℕ → Book → Exported
-withBook n v b = exported n v (headNumbers (b .head)) (b .trie) (b .frequencies) (b .logarithms)
+abbrev pub returnedWith : Returned → List ℕ → CharTrie → List ℕ → List Float → Exported
+returnedWith r = exported (r .number) (valueOf (r .beside))
 
-abbrev pub preparedAs : List ℕ → PrepareAnswer → Prepared → Exported
-preparedAs h a (Ready head) = exported 0 0 (headNumbers head) (a .trie) (a .frequencies) (a .logarithms)
-preparedAs h a (Refused o) = exported (numberOf o) 0 h (a .trie) (a .frequencies) (a .logarithms)
+-- the head's slice afterwards: a refusal leaves it
+abbrev pub headAfter : List ℕ → Prepared → List ℕ
+headAfter h (Ready head) = headNumbers head
+headAfter h (Refused o) = h
+
+abbrev pub preparedAs : List ℕ → PrepareAnswer → Exported
+preparedAs h a = returnedWith (preparedReturns (a .prepared)) (headAfter h (a .prepared)) (a .trie) (a .frequencies) (a .logarithms)
 
 unfoldable pub prepareExport : List ℕ → CharTrie → List ℕ → List Float → Exported
 prepareExport h t f l =
-    cond (eqb (length h) headLength) (preparedAs h (prepareOf t f l) (prepareOf t f l .prepared)) (exported badAreas 0 h t f l)
+    cond (eqb (length h) headLength) (preparedAs h (prepareOf t f l)) (exported badAreas 0 h t f l)
+
+abbrev pub withBook : Returned → Book → Exported
+withBook r b = returnedWith r (headNumbers (b .head)) (b .trie) (b .frequencies) (b .logarithms)
 
 abbrev pub loadedAs : LoadAnswer → Exported
-loadedAs a = withBook (numberOf (a .outcome)) (a .line) (a .book)
+loadedAs a = withBook (loadedReturns (a .outcome) (a .line)) (a .book)
 
 unfoldable pub loadExport : List ℕ → CharTrie → List ℕ → List Float → List ℕ → Exported
 loadExport h t f l text = cond (eqb (length h) headLength) (loadedAs (loadOf (bookOf (headOf h) t f l) text)) (exported badAreas 0 h t f l)
 
 abbrev pub addedAs : AddAnswer → Exported
-addedAs a = withBook (numberOf (a .outcome)) (a .frequency) (a .book)
+addedAs a = withBook (addedReturns (a .outcome) (a .frequency)) (a .book)
 
 unfoldable pub addExport : List ℕ → CharTrie → List ℕ → List Float → List ℕ → ℕ → Exported
 addExport h t f l word frequency = cond (eqb (length h) headLength) (addedAs (addOf (bookOf (headOf h) t f l) word frequency)) (exported badAreas 0 h t f l)
@@ -79,13 +99,11 @@ pub record FoundNumbers : Type 0 where
 abbrev pub foundNumbers : ℕ → ℕ → ℕ → FoundNumbers
 foundNumbers n h f = record { number = n; held = h; frequency = f }
 
-abbrev pub foundAs : Found → FoundNumbers
-foundAs (Frequency f) = foundNumbers 0 1 f
-foundAs Absent = foundNumbers 0 0 0
-foundAs (NotLookedUp o) = foundNumbers (numberOf o) 0 0
+abbrev pub foundAs : Returned → FoundNumbers
+foundAs r = foundNumbers (r .number) (hasValue (r .beside)) (valueOf (r .beside))
 
 unfoldable pub lookupExport : List ℕ → CharTrie → List ℕ → List Float → List ℕ → FoundNumbers
-lookupExport h t f l word = cond (eqb (length h) headLength) (foundAs (lookupOf (bookOf (headOf h) t f l) word)) (foundNumbers badAreas 0 0)
+lookupExport h t f l word = cond (eqb (length h) headLength) (foundAs (lookupReturns (bookOf (headOf h) t f l) word)) (foundNumbers badAreas 0 0)
 
 -- ---- the cuts: the number, the token count, and the token area afterwards
 
@@ -97,13 +115,34 @@ pub record CutNumbers : Type 0 where
 abbrev pub cutNumbers : ℕ → ℕ → List ℕ → CutNumbers
 cutNumbers n c a = record { number = n; count = c; area = a }
 
-abbrev pub cutAs : CutAnswer → CutNumbers
-cutAs a = cutNumbers (numberOf (a .outcome)) (a .written .count) (a .written .area)
+-- where head and mode are such, what the cut answers
+abbrev pub cutWhere : Bool → List ℕ → CutAnswer → CutNumbers
+cutWhere such area a = cond such (cutNumbers (numberOf (a .outcome)) (a .written .count) (a .written .area)) (cutNumbers badAreas 0 area)
 
 unfoldable pub cutExport : List ℕ → CharTrie → List ℕ → List Float → ℕ → ℕ → List ℕ → List ℕ → CutNumbers
-cutExport h t f l work room area sentence =
-    cond (eqb (length h) headLength) (cutAs (cutOf (bookOf (headOf h) t f l) work room area sentence)) (cutNumbers badAreas 0 area)
+cutExport h t f l work room area sentence = cutWhere (eqb (length h) headLength) area (cutOf (bookOf (headOf h) t f l) work room area sentence)
+
+unfoldable pub cutForSearchExport : List ℕ → CharTrie → List ℕ → List Float → ℕ → ℕ → List ℕ → List ℕ → CutNumbers
+cutForSearchExport h t f l work room area sentence =
+    cutWhere (eqb (length h) headLength) area (cutForSearchOf (bookOf (headOf h) t f l) work room area sentence)
+
+-- the modes: 0 is `cut`, 1 is `cut_for_search`, and there is no other
+abbrev pub searchMode : ℕ
+searchMode = 1
+
+abbrev pub isMode : ℕ → Bool
+isMode mode = leb mode searchMode
+
+abbrev pub modeOf : ℕ → TokenizeMode
+modeOf mode = cond (eqb mode searchMode) Search Default
+
+unfoldable pub tokenizeExport : List ℕ → CharTrie → List ℕ → List Float → ℕ → ℕ → ℕ → List ℕ → List ℕ → CutNumbers
+tokenizeExport h t f l mode work room area sentence =
+    cutWhere (eqb (length h) headLength && isMode mode) area (tokenizeOf (modeOf mode) (bookOf (headOf h) t f l) work room area sentence)
 
 unfoldable pub cutAllExport : List ℕ → CharTrie → List ℕ → List Float → ℕ → List ℕ → List ℕ → CutNumbers
-cutAllExport h t f l work area sentence =
-    cond (eqb (length h) headLength) (cutAs (cutAllOf (bookOf (headOf h) t f l) work area sentence)) (cutNumbers badAreas 0 area)
+cutAllExport h t f l work area sentence = cutWhere (eqb (length h) headLength) area (cutAllOf (bookOf (headOf h) t f l) work area sentence)
+
+-- whether cutting begins; until then the work and edge areas are unchanged
+abbrev pub cutBegins : List ℕ → CharTrie → List ℕ → List Float → ℕ → List ℕ → List ℕ → Bool
+cutBegins h t f l work area sentence = eqb (length h) headLength && begins (testedBook (bookOf (headOf h) t f l)) work area sentence

@@ -5,21 +5,25 @@
 //! records used, slots used, next node, total. `include/tongsvale.h` says what each returns.
 ghost use mathlib.Core.Path.{_≡_};
 ghost use mathlib.Core.Bool.{false, _&&_};
-ghost use lib.Dec.{eqb};
 ghost use lib.ListN.{length};
-ghost use Rattle.trie.specs.Trie.{trieOf};
-ghost use Rattle.book.specs.Areas.{bookOf};
-ghost use Rattle.cuts.specs.Cuts.{testedBook, begins};
-ghost use Rattle.cut.specs.Areas as CutAreas;
+ghost use Rattle.trie.specs.Lent.{was, became, trieLent, trieLeft};
+ghost use Rattle.book.specs.Returns.{numberOf};
+ghost use Rattle.cuts.specs.Slices.{Unchanged};
+ghost use Rattle.tokenize.specs.Areas as CutAreas;
 ghost use Rattle.cut_all.specs.Areas as CutAllAreas;
-ghost use Rattle.tongsvale.specs.Exports.{headLength, headOf, headNumbers, exported, prepareExport, loadExport, addExport, foundNumbers, lookupExport, cutNumbers, cutExport, cutAllExport};
+ghost use Rattle.tongsvale.specs.Exports.{headLength, headOf, headNumbers, exported, prepareExport, loadExport, addExport, foundNumbers, lookupExport, badAreas, cutNumbers, cutExport, cutForSearchExport, isMode, modeOf, tokenizeExport, cutAllExport, cutBegins};
 use book::Found;
 use book::Head;
 use book::Outcome;
 use book::Prepared;
+use cuts::Cut;
+use cuts::TokenizeMode;
 
 // The numbers of a head.
 const HEAD_LENGTH: usize = 4;
+
+// The mode of `cut_for_search`; that of `cut` is 0, and there is no other.
+const SEARCH: u32 = 1;
 
 // What a load returns: its number and its line.
 #[repr(C)]
@@ -53,7 +57,7 @@ pub struct TongsvaleCut {
 // The head in a slice.
 fn read_head(head: &[u64]) -> Head
     requires { ⌜ length (now head) ≡ headLength ⌝ }
-    ensures { λ r. ⌜ r ≡ headOf (now (head .entry)) ⌝ }
+    ensures { λ r. ⌜ r ≡ headOf (was head) ⌝ }
 {
     Head {
         records: head[0],
@@ -66,12 +70,43 @@ fn read_head(head: &[u64]) -> Head
 // A head into a slice.
 fn write_head(head: &mut [u64], value: Head)
     requires { ⌜ length (now head) ≡ headLength ⌝ }
-    ensures { λ _. ⌜ now (head .exit) ≡ headNumbers value ⌝ }
+    ensures { λ _. ⌜ became head ≡ headNumbers value ⌝ }
 {
     head[0] = value.records;
     head[1] = value.slots;
     head[2] = value.next;
     head[3] = value.total;
+}
+
+// The mode of a number.
+fn mode_of(mode: u32) -> TokenizeMode
+    ensures { λ r. ⌜ r ≡ modeOf mode ⌝ }
+{
+    if mode == SEARCH {
+        return TokenizeMode::Search;
+    }
+    TokenizeMode::Default
+}
+
+// What a cut answers, in numbers.
+fn returned(cut: Cut) -> TongsvaleCut
+    ensures { λ r. ⌜ (r .number ≡ numberOf (cut .outcome)) × (r .count ≡ cut .count) ⌝ }
+{
+    let outcome = cut.outcome;
+    TongsvaleCut {
+        number: book::number_of(outcome),
+        count: cut.count,
+    }
+}
+
+// What a cut answers that is not tried, its head or its mode being none.
+fn refused() -> TongsvaleCut
+    ensures { λ r. ⌜ (r .number ≡ badAreas) × (r .count ≡ 0) ⌝ }
+{
+    returned(Cut {
+        outcome: Outcome::BadAreas,
+        count: 0,
+    })
 }
 
 // An empty book.
@@ -86,7 +121,7 @@ pub extern "C" fn tongsvale_prepare(
     frequencies: &mut [u32],
     logarithms: &mut [f64],
 ) -> u32
-    ensures { λ r. ⌜ exported r 0 (now (head .exit)) (trieOf (now («root_children» .exit)) (now («root_words» .exit)) (now (keys .exit)) (now (children .exit)) (now (words .exit))) (now (frequencies .exit)) (now (logarithms .exit)) ≡ prepareExport (now (head .entry)) (trieOf (now («root_children» .entry)) (now («root_words» .entry)) (now (keys .entry)) (now (children .entry)) (now (words .entry))) (now (frequencies .entry)) (now (logarithms .entry)) ⌝ }
+    ensures { λ r. ⌜ exported r 0 (became head) (trieLeft «root_children» «root_words» keys children words) (became frequencies) (became logarithms) ≡ prepareExport (was head) (trieLent «root_children» «root_words» keys children words) (was frequencies) (was logarithms) ⌝ }
 {
     if head.len() != HEAD_LENGTH {
         return book::number_of(Outcome::BadAreas);
@@ -121,7 +156,7 @@ pub extern "C" fn tongsvale_load(
     logarithms: &mut [f64],
     text: &[u8],
 ) -> TongsvaleLoaded
-    ensures { λ r. ⌜ exported (r .number) (r .line) (now (head .exit)) (trieOf (now («root_children» .exit)) (now («root_words» .exit)) (now (keys .exit)) (now (children .exit)) (now (words .exit))) (now (frequencies .exit)) (now (logarithms .exit)) ≡ loadExport (now (head .entry)) (trieOf (now («root_children» .entry)) (now («root_words» .entry)) (now (keys .entry)) (now (children .entry)) (now (words .entry))) (now (frequencies .entry)) (now (logarithms .entry)) (now (text .entry)) ⌝ }
+    ensures { λ r. ⌜ exported (r .number) (r .line) (became head) (trieLeft «root_children» «root_words» keys children words) (became frequencies) (became logarithms) ≡ loadExport (was head) (trieLent «root_children» «root_words» keys children words) (was frequencies) (was logarithms) (was text) ⌝ }
 {
     if head.len() != HEAD_LENGTH {
         return TongsvaleLoaded {
@@ -163,7 +198,7 @@ pub extern "C" fn tongsvale_add(
     word: &[u8],
     frequency: u64,
 ) -> TongsvaleAdded
-    ensures { λ r. ⌜ exported (r .number) (r .frequency) (now (head .exit)) (trieOf (now («root_children» .exit)) (now («root_words» .exit)) (now (keys .exit)) (now (children .exit)) (now (words .exit))) (now (frequencies .exit)) (now (logarithms .exit)) ≡ addExport (now (head .entry)) (trieOf (now («root_children» .entry)) (now («root_words» .entry)) (now (keys .entry)) (now (children .entry)) (now (words .entry))) (now (frequencies .entry)) (now (logarithms .entry)) (now (word .entry)) frequency ⌝ }
+    ensures { λ r. ⌜ exported (r .number) (r .frequency) (became head) (trieLeft «root_children» «root_words» keys children words) (became frequencies) (became logarithms) ≡ addExport (was head) (trieLent «root_children» «root_words» keys children words) (was frequencies) (was logarithms) (was word) frequency ⌝ }
 {
     if head.len() != HEAD_LENGTH {
         return TongsvaleAdded {
@@ -205,7 +240,7 @@ pub extern "C" fn tongsvale_lookup(
     logarithms: &[f64],
     word: &[u8],
 ) -> TongsvaleFound
-    ensures { λ r. ⌜ foundNumbers (r .number) (r .held) (r .frequency) ≡ lookupExport (now (head .entry)) (trieOf (now («root_children» .entry)) (now («root_words» .entry)) (now (keys .entry)) (now (children .entry)) (now (words .entry))) (now (frequencies .entry)) (now (logarithms .entry)) (now (word .entry)) ⌝ }
+    ensures { λ r. ⌜ foundNumbers (r .number) (r .held) (r .frequency) ≡ lookupExport (was head) (trieLent «root_children» «root_words» keys children words) (was frequencies) (was logarithms) (was word) ⌝ }
 {
     if head.len() != HEAD_LENGTH {
         return TongsvaleFound {
@@ -265,18 +300,15 @@ pub extern "C" fn tongsvale_cut(
     edge_records: &mut [u32],
     tokens: &mut [u32],
 ) -> TongsvaleCut
-    ensures { λ r. ⌜ cutNumbers (r .number) (r .count) (now (tokens .exit)) ≡ cutExport (now (head .entry)) (trieOf (now («root_children» .entry)) (now («root_words» .entry)) (now (keys .entry)) (now (children .entry)) (now (words .entry))) (now (frequencies .entry)) (now (logarithms .entry))
-        (CutAreas.workOf (now (chars .entry)) (now (offsets .entry)) (now (starts .entry)) (now (scores .entry)) (now (ends .entry)) (now (records .entry))) (CutAreas.roomOf (now («edge_ends» .entry)) (now («edge_records» .entry))) (now (tokens .entry)) (now (sentence .entry)) ⌝ }
-    ensures { λ _. ⌜ ((eqb (length (now (head .entry))) headLength && begins (testedBook (bookOf (headOf (now (head .entry))) (trieOf (now («root_children» .entry)) (now («root_words» .entry)) (now (keys .entry)) (now (children .entry)) (now (words .entry))) (now (frequencies .entry)) (now (logarithms .entry)))) (CutAreas.workOf (now (chars .entry)) (now (offsets .entry)) (now (starts .entry)) (now (scores .entry)) (now (ends .entry)) (now (records .entry))) (now (tokens .entry)) (now (sentence .entry))) ≡ false
-        → CutAreas.Unchanged (now (chars .exit)) (now (chars .entry)) (now (offsets .exit)) (now (offsets .entry)) (now (starts .exit)) (now (starts .entry)) (now (scores .exit)) (now (scores .entry)) (now (ends .exit)) (now (ends .entry)) (now (records .exit)) (now (records .entry)) (now («edge_ends» .exit)) (now («edge_ends» .entry)) (now («edge_records» .exit)) (now («edge_records» .entry))) ⌝ }
+    ensures { λ r. ⌜ cutNumbers (r .number) (r .count) (became tokens) ≡ cutExport (was head) (trieLent «root_children» «root_words» keys children words) (was frequencies) (was logarithms)
+        (CutAreas.workLent chars offsets starts scores ends records) (CutAreas.roomLent «edge_ends» «edge_records») (was tokens) (was sentence) ⌝ }
+    ensures { λ _. ⌜ (cutBegins (was head) (trieLent «root_children» «root_words» keys children words) (was frequencies) (was logarithms) (CutAreas.workLent chars offsets starts scores ends records) (was tokens) (was sentence) ≡ false
+        → Unchanged chars × Unchanged offsets × Unchanged starts × Unchanged scores × Unchanged ends × Unchanged records × Unchanged «edge_ends» × Unchanged «edge_records») ⌝ }
 {
     if head.len() != HEAD_LENGTH {
-        return TongsvaleCut {
-            number: book::number_of(Outcome::BadAreas),
-            count: 0,
-        };
+        return refused();
     }
-    let cut = cut::cut(
+    returned(cut::cut(
         read_head(head),
         root_children,
         root_words,
@@ -295,12 +327,116 @@ pub extern "C" fn tongsvale_cut(
         edge_ends,
         edge_records,
         tokens,
-    );
-    let outcome = cut.outcome;
-    TongsvaleCut {
-        number: book::number_of(outcome),
-        count: cut.count,
+    ))
+}
+
+// Cuts a sentence into words, before each of them what search finds in it.
+#[no_mangle]
+pub extern "C" fn tongsvale_cut_for_search(
+    head: &[u64],
+    root_children: &[u32],
+    root_words: &[i32],
+    keys: &[u64],
+    children: &[u32],
+    words: &[i32],
+    frequencies: &[u32],
+    logarithms: &[f64],
+    sentence: &[u8],
+    chars: &mut [u32],
+    offsets: &mut [u32],
+    starts: &mut [usize],
+    scores: &mut [f64],
+    ends: &mut [u32],
+    records: &mut [u32],
+    edge_ends: &mut [u32],
+    edge_records: &mut [u32],
+    tokens: &mut [u32],
+) -> TongsvaleCut
+    ensures { λ r. ⌜ cutNumbers (r .number) (r .count) (became tokens) ≡ cutForSearchExport (was head) (trieLent «root_children» «root_words» keys children words) (was frequencies) (was logarithms)
+        (CutAreas.workLent chars offsets starts scores ends records) (CutAreas.roomLent «edge_ends» «edge_records») (was tokens) (was sentence) ⌝ }
+    ensures { λ _. ⌜ (cutBegins (was head) (trieLent «root_children» «root_words» keys children words) (was frequencies) (was logarithms) (CutAreas.workLent chars offsets starts scores ends records) (was tokens) (was sentence) ≡ false
+        → Unchanged chars × Unchanged offsets × Unchanged starts × Unchanged scores × Unchanged ends × Unchanged records × Unchanged «edge_ends» × Unchanged «edge_records») ⌝ }
+{
+    if head.len() != HEAD_LENGTH {
+        return refused();
     }
+    returned(cut::cut_for_search(
+        read_head(head),
+        root_children,
+        root_words,
+        keys,
+        children,
+        words,
+        frequencies,
+        logarithms,
+        sentence,
+        chars,
+        offsets,
+        starts,
+        scores,
+        ends,
+        records,
+        edge_ends,
+        edge_records,
+        tokens,
+    ))
+}
+
+// Cuts a sentence into words by a mode: 0 as `tongsvale_cut`, 1 as `tongsvale_cut_for_search`.
+#[no_mangle]
+pub extern "C" fn tongsvale_tokenize(
+    head: &[u64],
+    root_children: &[u32],
+    root_words: &[i32],
+    keys: &[u64],
+    children: &[u32],
+    words: &[i32],
+    frequencies: &[u32],
+    logarithms: &[f64],
+    sentence: &[u8],
+    mode: u32,
+    chars: &mut [u32],
+    offsets: &mut [u32],
+    starts: &mut [usize],
+    scores: &mut [f64],
+    ends: &mut [u32],
+    records: &mut [u32],
+    edge_ends: &mut [u32],
+    edge_records: &mut [u32],
+    tokens: &mut [u32],
+) -> TongsvaleCut
+    ensures { λ r. ⌜ cutNumbers (r .number) (r .count) (became tokens) ≡ tokenizeExport (was head) (trieLent «root_children» «root_words» keys children words) (was frequencies) (was logarithms)
+        mode (CutAreas.workLent chars offsets starts scores ends records) (CutAreas.roomLent «edge_ends» «edge_records») (was tokens) (was sentence) ⌝ }
+    ensures { λ _. ⌜ ((isMode mode && cutBegins (was head) (trieLent «root_children» «root_words» keys children words) (was frequencies) (was logarithms) (CutAreas.workLent chars offsets starts scores ends records) (was tokens) (was sentence)) ≡ false
+        → Unchanged chars × Unchanged offsets × Unchanged starts × Unchanged scores × Unchanged ends × Unchanged records × Unchanged «edge_ends» × Unchanged «edge_records») ⌝ }
+{
+    if head.len() != HEAD_LENGTH {
+        return refused();
+    }
+    if SEARCH < mode {
+        return refused();
+    }
+    returned(tokenize::tokenize(
+        read_head(head),
+        root_children,
+        root_words,
+        keys,
+        children,
+        words,
+        frequencies,
+        logarithms,
+        sentence,
+        mode_of(mode),
+        chars,
+        offsets,
+        starts,
+        scores,
+        ends,
+        records,
+        edge_ends,
+        edge_records,
+        tokens,
+    ))
 }
 
 // Cuts a sentence into all possible words.
@@ -319,18 +455,15 @@ pub extern "C" fn tongsvale_cut_all(
     offsets: &mut [u32],
     tokens: &mut [u32],
 ) -> TongsvaleCut
-    ensures { λ r. ⌜ cutNumbers (r .number) (r .count) (now (tokens .exit)) ≡ cutAllExport (now (head .entry)) (trieOf (now («root_children» .entry)) (now («root_words» .entry)) (now (keys .entry)) (now (children .entry)) (now (words .entry))) (now (frequencies .entry)) (now (logarithms .entry))
-        (CutAllAreas.workOf (now (chars .entry)) (now (offsets .entry))) (now (tokens .entry)) (now (sentence .entry)) ⌝ }
-    ensures { λ _. ⌜ ((eqb (length (now (head .entry))) headLength && begins (testedBook (bookOf (headOf (now (head .entry))) (trieOf (now («root_children» .entry)) (now («root_words» .entry)) (now (keys .entry)) (now (children .entry)) (now (words .entry))) (now (frequencies .entry)) (now (logarithms .entry)))) (CutAllAreas.workOf (now (chars .entry)) (now (offsets .entry))) (now (tokens .entry)) (now (sentence .entry))) ≡ false
-        → CutAllAreas.Unchanged (now (chars .exit)) (now (chars .entry)) (now (offsets .exit)) (now (offsets .entry))) ⌝ }
+    ensures { λ r. ⌜ cutNumbers (r .number) (r .count) (became tokens) ≡ cutAllExport (was head) (trieLent «root_children» «root_words» keys children words) (was frequencies) (was logarithms)
+        (CutAllAreas.workLent chars offsets) (was tokens) (was sentence) ⌝ }
+    ensures { λ _. ⌜ (cutBegins (was head) (trieLent «root_children» «root_words» keys children words) (was frequencies) (was logarithms) (CutAllAreas.workLent chars offsets) (was tokens) (was sentence) ≡ false
+        → Unchanged chars × Unchanged offsets) ⌝ }
 {
     if head.len() != HEAD_LENGTH {
-        return TongsvaleCut {
-            number: book::number_of(Outcome::BadAreas),
-            count: 0,
-        };
+        return refused();
     }
-    let cut = cut_all::cut_all(
+    returned(cut_all::cut_all(
         read_head(head),
         root_children,
         root_words,
@@ -343,10 +476,5 @@ pub extern "C" fn tongsvale_cut_all(
         chars,
         offsets,
         tokens,
-    );
-    let outcome = cut.outcome;
-    TongsvaleCut {
-        number: book::number_of(outcome),
-        count: cut.count,
-    }
+    ))
 }

@@ -4,6 +4,7 @@ ghost use mathlib.Core.Path.{_≡_};
 ghost use Prim.Native.Nat.{_-_, _*_, _/_, _%_, _^_, _<_};
 ghost use lib.ListN.{length};
 ghost use Rattle.trie.specs.Trie.{keyOf, log2, SlotCount, nextSlot, probeOf, emptySlot, stepByProbe, stepFrom};
+ghost use Rattle.trie.specs.Lent.{was};
 use super::ParentRef;
 use super::Probe;
 use super::Step;
@@ -35,7 +36,7 @@ fn next_slot(n: usize, i: usize) -> usize
 pub fn probe(keys: &[u64], shift: u32, key: u64) -> Probe
     requires { ⌜ SlotCount (length (now keys)) ⌝ }
     requires { ⌜ shift ≡ 64 - log2 (length (now keys)) ⌝ }
-    ensures { λ r. ⌜ r ≡ probeOf (now (keys .entry)) key ⌝ }
+    ensures { λ r. ⌜ r ≡ probeOf (was keys) key ⌝ }
 {
     let mut left = keys.len();
     let mut i = index(key, shift);
@@ -57,7 +58,7 @@ pub fn probe(keys: &[u64], shift: u32, key: u64) -> Probe
 pub fn first_empty(keys: &[u64], shift: u32, key: u64) -> Probe
     requires { ⌜ SlotCount (length (now keys)) ⌝ }
     requires { ⌜ shift ≡ 64 - log2 (length (now keys)) ⌝ }
-    ensures { λ r. ⌜ r ≡ emptySlot (now (keys .entry)) key ⌝ }
+    ensures { λ r. ⌜ r ≡ emptySlot (was keys) key ⌝ }
 {
     let mut left = keys.len();
     let mut i = index(key, shift);
@@ -76,7 +77,7 @@ pub fn slot_step(keys: &[u64], shift: u32, node: u32, ch: u32) -> Step
     requires { ⌜ SlotCount (length (now keys)) ⌝ }
     requires { ⌜ shift ≡ 64 - log2 (length (now keys)) ⌝ }
     requires { ⌜ (node < 2 ^ 24) × (ch < 2 ^ 21) ⌝ }
-    ensures { λ r. ⌜ r ≡ stepByProbe (probeOf (now (keys .entry)) (keyOf node ch)) ⌝ }
+    ensures { λ r. ⌜ r ≡ stepByProbe (probeOf (was keys) (keyOf node ch)) ⌝ }
 {
     match probe(keys, shift, super::key(node, ch)) {
         Probe::Found(i) => Step::At(ParentRef::Slot(i)),
@@ -91,7 +92,7 @@ pub fn step(keys: &[u64], shift: u32, filter: u64, child: u32, ch: u32) -> Step
     requires { ⌜ SlotCount (length (now keys)) ⌝ }
     requires { ⌜ shift ≡ 64 - log2 (length (now keys)) ⌝ }
     requires { ⌜ ch < 2 ^ 21 ⌝ }
-    ensures { λ r. ⌜ r ≡ stepFrom (now (keys .entry)) filter child ch ⌝ }
+    ensures { λ r. ⌜ r ≡ stepFrom (was keys) filter child ch ⌝ }
 {
     let bits = super::filter_bits(ch);
     if !arith::has_bit_u64(filter, bits.key) {

@@ -15,6 +15,7 @@ ghost use Prim.Native.Nat.{_-_, _^_, _<_};
 ghost use lib.ListN.{length, getD};
 ghost use Rattle.trie.specs.Trie.{noWord, wordNumber, keyOf, log2, SlotCount, keyBit, childBit};
 ghost use Rattle.trie.specs.SlotCounts.{slotCount};
+ghost use Rattle.trie.specs.Lent.{was};
 
 // The functions whose counterparts are methods of the Rust's `CharTrie`.
 pub mod char_trie;
@@ -121,7 +122,7 @@ pub fn shift_of(slots: usize) -> u32
 // number is read.
 pub fn word_number(words: &[i32], i: usize, used: usize) -> WordNumber
     requires { ⌜ i < length (now words) ⌝ }
-    ensures { λ r. ⌜ r ≡ wordNumber used (getD (now (words .entry)) i noWord) ⌝ }
+    ensures { λ r. ⌜ r ≡ wordNumber used (getD (was words) i noWord) ⌝ }
 {
     let w = words[i];
     if w == -1 {

@@ -1,5 +1,6 @@
--- Demand 3. A book built by calls shows a cut the words and the sum of its ledger (`built`), so its cuts are those from the held words; two ledgers that
--- agree on every stretch of a sentence have the same words at each position of it; and a cut takes nothing else (`Alike`).
+-- Demand 3. What ran by the contracts is what the definitions say (`Runs`). A book built by calls shows a cut the words and the sum of its ledger
+-- (`built`), so its cuts are those from the held words; two ledgers that agree on every stretch of a sentence have the same words at each position of it;
+-- and a cut takes nothing else (`Alike`).
 -- Assumes nothing.
 use mathlib.Core.Path.{_≡_, refl, sym, ap, subst, _∙_}
 use mathlib.Core.Bool.{Bool, true, false, cond}
@@ -17,23 +18,21 @@ use Rattle.utf8.proofs.Texts.{texts-only-of-encodings}
 use Rattle.book.specs.Returns.{Book, longestText}
 use Rattle.book.specs.Prefixes.{Walked, wordsFrom}
 use Rattle.built.specs.Ledger.{Entry, frequencyIn, sumOf, wordsAfter, ledgerWords}
-use Rattle.built.specs.Calls.{Call, BuiltByCalls, after, bookFrom, answersFrom, ledgerFrom}
+use Rattle.built.specs.Calls.{BuiltByCalls}
 use Rattle.built.specs.Claims.{SamePrefixes}
-use Rattle.built.proofs.Claims.{walk-as-ledger, total-is-sum, no-damage, same-words}
+use Rattle.built.proofs.Claims.{walk-as-ledger, lookup-as-ledger, total-is-sum, ledger-each-once, no-damage, same-words}
 use Rattle.cuts.specs.declared.TokenizeMode.{TokenizeMode}
 use Rattle.cuts.specs.declared.TokenizeMode.the-variants.{Default, Search}
 use Rattle.cuts.specs.Blocks.{blocksOf}
 use Rattle.cuts.specs.Edges.{Vocabulary, vocabularyOf}
 use Rattle.cuts.specs.Tokens.{Written}
 use Rattle.cuts.specs.Cuts.{CutAnswer, Tested, testedBook, cutBlock, cutAllBlock, searchBlock, cutBlocks, start, cutWith, cutBy, cutAllBy, cutForSearchBy, cutOf, cutAllOf, cutForSearchOf, tokenizeOf}
-use Rattle.two_books.specs.HeldWords.{heldVocabulary, sound, heldCut, heldCutAll, heldCutForSearch, heldTokenize}
-use Rattle.two_books.specs.Demand3.{CallList, bookAfter as bookOf, ledgerAfter as ledgerOf, orNone, charactersOf, stretch, SameStretches, EqualAreas, AnswerAlike, AnswersFromHeldWords, AnswersInTurn, TwoBooks, Demand3}
+use Rattle.two_books.specs.HeldWords.{heldVocabulary, sound, heldCut, heldCutAll, heldCutForSearch, heldTokenize, heldAnswer}
+use Rattle.two_books.specs.Runs.{ledgerOf, Cutter, Cut, CutAll, CutForSearch, Tokenize, Areas, Answered}
+use Rattle.two_books.specs.Demand3.{orNone, charactersOf, stretch, SameStretches, EqualAreas, HeldAsLedger, FromHeldWords, Demand3}
 use Rattle.two_books.proofs.Alike.{Everywhere, Shortens, cut-alike, search-alike, all-alike, tests-alike}
 use Rattle.two_books.proofs.Undamaged.{Fine, fine-cut, fine-search, fine-all, fine-blocks, fine-tests}
-use Rattle.two_books.proofs.Turns.{answered-in-turn}
-
-built-by : (l : CallList) → BuiltByCalls (bookOf l) (ledgerOf l)
-built-by l = after (l .roots) (l .slots) (l .records) (l .calls) (l .allowed)
+use Rattle.two_books.proofs.Runs.{run-built, run-in-turn}
 
 -- ---- a book and its ledger
 
@@ -106,16 +105,34 @@ module _ (b : Book) (ledger : List Entry) (by : BuiltByCalls b ledger) where
     unfolding heldCutForSearch
     cut-for-search-fine = fine-tests sound work area sentence _ refl (λ cs w. fine-blocks (searchBlock (heldVocabulary ledger) room) (fine-search (heldVocabulary ledger) (λ at cs. refl) room) (blocksOf cutClass cs) start w)
 
-    from-held-words : AnswersFromHeldWords b ledger work room area sentence
-    from-held-words = record {
-      cut = cut-held;
-      cut-all = cut-all-held;
-      cut-for-search = cut-for-search-held;
-      tokenize = tokenize-held;
-      cut-undamaged = rw cut-held cut-fine;
-      cut-all-undamaged = rw cut-all-held cut-all-fine;
-      cut-for-search-undamaged = rw cut-for-search-held cut-for-search-fine;
-    }
+    tokenize-fine : (mode : TokenizeMode) → Fine (heldTokenize mode ledger work room area sentence)
+    unfolding heldTokenize
+    tokenize-fine Default = cut-fine
+    tokenize-fine Search = cut-for-search-fine
+
+  -- each of the cuts answers from the held words, and meets no damage
+  module _ (lent : Areas) (sentence : List ℕ) where
+    answered : (cutter : Cutter) (a : CutAnswer) → Answered cutter b lent sentence a → a ≡ heldAnswer cutter ledger lent sentence
+    answered Cut a e = e ∙ cut-held (lent .work) (lent .edges) (lent .tokens) sentence
+    answered CutAll a e = e ∙ cut-all-held (lent .work) (lent .edges) (lent .tokens) sentence
+    answered CutForSearch a e = e ∙ cut-for-search-held (lent .work) (lent .edges) (lent .tokens) sentence
+    answered (Tokenize mode) a e = e ∙ tokenize-held (lent .work) (lent .edges) (lent .tokens) sentence mode
+
+    fine : (cutter : Cutter) → Fine (heldAnswer cutter ledger lent sentence)
+    fine Cut = cut-fine (lent .work) (lent .edges) (lent .tokens) sentence
+    fine CutAll = cut-all-fine (lent .work) (lent .edges) (lent .tokens) sentence
+    fine CutForSearch = cut-for-search-fine (lent .work) (lent .edges) (lent .tokens) sentence
+    fine (Tokenize mode) = tokenize-fine (lent .work) (lent .edges) (lent .tokens) sentence mode
+
+    from-held-words : (cutter : Cutter) (a : CutAnswer) → Answered cutter b lent sentence a → FromHeldWords ledger cutter lent sentence a
+    from-held-words cutter a e = record { defined = answered cutter a e; undamaged = rw (answered cutter a e) (fine cutter) }
+
+  held : HeldAsLedger b ledger
+  held = record {
+    lookups = λ text found e. e ∙ lookup-as-ledger b ledger by text;
+    total = total-held;
+    once = ledger-each-once b ledger by;
+  }
 
 -- ---- two ledgers
 
@@ -184,62 +201,45 @@ module _ (ledger ledger′ : List Entry) where
           (λ cs. cutBlocks (searchBlock (heldVocabulary ledger′) room) start (blocksOf cutClass cs))
           (λ cs l e w. search-alike (SamePrefixes ledger ledger′) shortens-same (heldVocabulary ledger) (heldVocabulary ledger′) words-alike sums room cutClass cs (sentence-everywhere cs l e) w)
 
+      held-tokenize-alike : (mode : TokenizeMode) → heldTokenize mode ledger work room area sentence ≡ heldTokenize mode ledger′ work room area sentence
+      unfolding heldTokenize
+      held-tokenize-alike Default = held-cut-alike
+      held-tokenize-alike Search = held-cut-for-search-alike
+
+    held-alike : (lent : Areas) (cutter : Cutter) → heldAnswer cutter ledger lent sentence ≡ heldAnswer cutter ledger′ lent sentence
+    held-alike lent Cut = held-cut-alike (lent .work) (lent .edges) (lent .tokens)
+    held-alike lent CutAll = held-cut-all-alike (lent .work) (lent .edges) (lent .tokens)
+    held-alike lent CutForSearch = held-cut-for-search-alike (lent .work) (lent .edges) (lent .tokens)
+    held-alike lent (Tokenize mode) = held-tokenize-alike (lent .work) (lent .edges) (lent .tokens) mode
+
 -- ---- the demand
 
--- the choice by mode is one of the two
-tokenize-alike : (b b′ : Book) (work work′ room room′ : ℕ) (area area′ sentence : List ℕ) → cutOf b work room area sentence ≡ cutOf b′ work′ room′ area′ sentence
-    → cutForSearchOf b work room area sentence ≡ cutForSearchOf b′ work′ room′ area′ sentence
-    → (mode : TokenizeMode) → tokenizeOf mode b work room area sentence ≡ tokenizeOf mode b′ work′ room′ area′ sentence
-unfolding tokenizeOf
-tokenize-alike b b′ work work′ room room′ area area′ sentence cut search Default = cut
-tokenize-alike b b′ work work′ room room′ area area′ sentence cut search Search = search
-
-in-turn : (l : CallList) → AnswersInTurn l
-in-turn l earlier call later e = rw e (answered-in-turn _ earlier call later)
+-- areas that are equal are one
+same-areas : (lent lent′ : Areas) → EqualAreas lent lent′ → lent ≡ lent′
+same-areas lent lent′ equal = rw (equal .work-areas, equal .edge-areas, equal .token-areas)
 
 pub demand-3 : Demand3
-demand-3 l l′ sentence same totals work work′ room room′ area area′ equal = record {
-  alike = record {
-    cut = cut;
-    cut-all =
-        cut-all-held b ledger by work room area sentence ∙ held-cut-all-alike ledger ledger′ sentence same sums work room area
-        ∙ rw (equal .work-areas, equal .token-areas) (sym (cut-all-held b′ ledger′ by′ work′ room′ area′ sentence));
-    cut-for-search = cut-for-search;
-    tokenize = tokenize-alike b b′ work work′ room room′ area area′ sentence cut cut-for-search;
-  };
-  from-held-words = from-held-words b ledger by work room area sentence;
-  from-held-words′ = from-held-words b′ ledger′ by′ work′ room′ area′ sentence;
-  in-turn = in-turn l;
-  in-turn′ = in-turn l′;
+demand-3 r r′ sentence same totals lent lent′ equal cutter a a′ e e′ = record {
+  alike = of-first .defined ∙ held-alike ledger ledger′ sentence same sums lent cutter ∙ ap (λ (areas : Areas). heldAnswer cutter ledger′ areas sentence) (same-areas lent lent′ equal) ∙ sym (of-second .defined);
+  from-held-words = of-first;
+  from-held-words′ = of-second;
+  held-as-ledger = held (r .book) ledger (run-built r);
+  held-as-ledger′ = held (r′ .book) ledger′ (run-built r′);
+  in-turn = run-in-turn r;
+  in-turn′ = run-in-turn r′;
 }
   where
-    b : Book
-    b = bookOf l
-
-    b′ : Book
-    b′ = bookOf l′
-
     ledger : List Entry
-    ledger = ledgerOf l
+    ledger = ledgerOf r
 
     ledger′ : List Entry
-    ledger′ = ledgerOf l′
+    ledger′ = ledgerOf r′
 
-    by : BuiltByCalls b ledger
-    by = built-by l
+    of-first : FromHeldWords ledger cutter lent sentence a
+    of-first = from-held-words (r .book) ledger (run-built r) lent sentence cutter a e
 
-    by′ : BuiltByCalls b′ ledger′
-    by′ = built-by l′
+    of-second : FromHeldWords ledger′ cutter lent′ sentence a′
+    of-second = from-held-words (r′ .book) ledger′ (run-built r′) lent′ sentence cutter a′ e′
 
     sums : sumOf ledger ≡ sumOf ledger′
-    sums = sym (total-held b ledger by) ∙ totals ∙ total-held b′ ledger′ by′
-
-    cut : cutOf b work room area sentence ≡ cutOf b′ work′ room′ area′ sentence
-    cut =
-        cut-held b ledger by work room area sentence ∙ held-cut-alike ledger ledger′ sentence same sums work room area
-        ∙ rw (equal .work-areas, equal .edge-areas, equal .token-areas) (sym (cut-held b′ ledger′ by′ work′ room′ area′ sentence))
-
-    cut-for-search : cutForSearchOf b work room area sentence ≡ cutForSearchOf b′ work′ room′ area′ sentence
-    cut-for-search =
-        cut-for-search-held b ledger by work room area sentence ∙ held-cut-for-search-alike ledger ledger′ sentence same sums work room area
-        ∙ rw (equal .work-areas, equal .edge-areas, equal .token-areas) (sym (cut-for-search-held b′ ledger′ by′ work′ room′ area′ sentence))
+    sums = sym (total-held (r .book) ledger (run-built r)) ∙ totals ∙ total-held (r′ .book) ledger′ (run-built r′)

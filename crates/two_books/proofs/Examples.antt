@@ -22,18 +22,20 @@ use Rattle.book.specs.Prefixes.{wordsFrom, walkOn}
 use Rattle.score.specs.Logarithm.{logFloat, L, logOf, highestOne, significand, nextBit, nextSignificand, bitsOf}
 use Rattle.score.specs.Scores.{floatOf}
 use Rattle.route.specs.Route.{choose, routeOf}
+use Rattle.cuts.specs.declared.TokenizeMode.the-variants.{Default, Search}
 use Rattle.cuts.specs.Blocks.{blocksOf}
 use Rattle.cuts.specs.Edges.{walksOf, edgesWithin}
 use Rattle.cuts.specs.Tokens.{stepsFrom, piecesOf, joined, cutRoute, singly, runsOf, parts, partsOf, wordsOfSize, searched, tokenOf}
-use Rattle.cuts.specs.Cuts.{putSpans, cutBlock, cutBlocks, cutWith, cutOf}
+use Rattle.cuts.specs.Cuts.{putSpans, putWalks, cutBlock, searchBlock, cutAllBlock, cutBlocks, cutWith, cutOf, cutAllOf, cutForSearchOf, tokenizeOf}
 use Rattle.book.specs.Enter.{addOf}
 use Rattle.built.specs.Ledger.{ledgerAfterAdd, ledgerAfterLoad, enterLines, enterIn, frequencyIn, sameWord}
 use Rattle.built.specs.Calls.{answersOf, answerOf, bookAfter, bookAfterAll, ledgerAfter, ledgerAfterAll}
-use Rattle.two_books.specs.Demand3.{SameStretches, ledgerAfter as ledgerOf}
-use Rattle.two_books.specs.Examples.{oneBridge, otherBridge, command, NotVacuous, totalOfZero, totalOfOne, pair, EachPremiseNeeded}
+use Rattle.two_books.specs.Runs.{ledgerOf, Cutter, Cut, CutAll, CutForSearch, Tokenize, Answered}
+use Rattle.two_books.specs.Demand3.{SameStretches}
+use Rattle.two_books.specs.Examples.{oneBridge, otherBridge, command, lent, commandAnswer, NotVacuous, totalOfZero, totalOfOne, pair, EachPremiseNeeded}
 
 same-on-command : SameStretches (ledgerOf oneBridge) (ledgerOf otherBridge) command
-unfolding charsOf charsWithin readFrom byteLength encode linesOf meaningOf fieldsOf pieces frequencyOf number whiteSpace inRanges cutClass han hanMain hanExtension asciiLetterOrDigit cutSign getOf walk wordAt wordNumber testedStep openStep bitsAt fromRoot nodeAt probeOf probeFrom nextSlot startSlot log2 keyOf filterHash keyBit childBit reach newSlots withBits withWord emptyFrom emptySlot extend insert slotCount hasBit withBit allowed headDamaged emptyBook lookupOf decide emptySlots replaced inserted loadLines loadOf wordsFrom walkOn logFloat L logOf highestOne significand nextBit nextSignificand bitsOf floatOf blocksOf walksOf edgesWithin choose routeOf stepsFrom piecesOf joined cutRoute singly tokenOf putSpans cutBlock cutBlocks cutWith cutOf leadingZeros span climb size odd units round neg sum add sub lt eq ofInt whole addOf answersOf answerOf bookAfter bookAfterAll ledgerAfter ledgerAfterAll ledgerAfterAdd ledgerAfterLoad enterLines enterIn frequencyIn sameWord
+unfolding charsOf charsWithin readFrom byteLength encode linesOf meaningOf fieldsOf pieces frequencyOf number whiteSpace inRanges cutClass han hanMain hanExtension asciiLetterOrDigit cutSign joins connector asciiLetter getOf walk wordAt wordNumber testedStep openStep bitsAt fromRoot nodeAt probeOf probeFrom nextSlot startSlot log2 keyOf filterHash keyBit childBit reach newSlots withBits withWord emptyFrom emptySlot extend insert slotCount hasBit withBit allowed headDamaged emptyBook lookupOf decide emptySlots replaced inserted loadLines loadOf wordsFrom walkOn logFloat L logOf highestOne significand nextBit nextSignificand bitsOf floatOf blocksOf walksOf edgesWithin choose routeOf stepsFrom piecesOf joined cutRoute singly runsOf parts partsOf wordsOfSize searched tokenOf putSpans putWalks cutBlock searchBlock cutAllBlock cutBlocks cutWith cutOf cutAllOf cutForSearchOf tokenizeOf leadingZeros span climb size odd units round neg sum add sub lt eq ofInt whole addOf answersOf answerOf bookAfter bookAfterAll ledgerAfter ledgerAfterAll ledgerAfterAdd ledgerAfterLoad enterLines enterIn frequencyIn sameWord
 same-on-command zero zero h = refl
 same-on-command zero (suc zero) h = refl
 same-on-command zero (suc (suc zero)) h = refl
@@ -46,7 +48,7 @@ same-on-command (suc (suc zero)) (suc more) h = absurd (omega arith)
 same-on-command (suc (suc (suc from))) more h = absurd (omega arith)
 
 same-on-pair : SameStretches (ledgerOf totalOfZero) (ledgerOf totalOfOne) pair
-unfolding charsOf charsWithin readFrom byteLength encode linesOf meaningOf fieldsOf pieces frequencyOf number whiteSpace inRanges cutClass han hanMain hanExtension asciiLetterOrDigit cutSign getOf walk wordAt wordNumber testedStep openStep bitsAt fromRoot nodeAt probeOf probeFrom nextSlot startSlot log2 keyOf filterHash keyBit childBit reach newSlots withBits withWord emptyFrom emptySlot extend insert slotCount hasBit withBit allowed headDamaged emptyBook lookupOf decide emptySlots replaced inserted loadLines loadOf wordsFrom walkOn logFloat L logOf highestOne significand nextBit nextSignificand bitsOf floatOf blocksOf walksOf edgesWithin choose routeOf stepsFrom piecesOf joined cutRoute singly tokenOf putSpans cutBlock cutBlocks cutWith cutOf leadingZeros span climb size odd units round neg sum add sub lt eq ofInt whole addOf answersOf answerOf bookAfter bookAfterAll ledgerAfter ledgerAfterAll ledgerAfterAdd ledgerAfterLoad enterLines enterIn frequencyIn sameWord
+unfolding charsOf charsWithin readFrom byteLength encode linesOf meaningOf fieldsOf pieces frequencyOf number whiteSpace inRanges cutClass han hanMain hanExtension asciiLetterOrDigit cutSign joins connector asciiLetter getOf walk wordAt wordNumber testedStep openStep bitsAt fromRoot nodeAt probeOf probeFrom nextSlot startSlot log2 keyOf filterHash keyBit childBit reach newSlots withBits withWord emptyFrom emptySlot extend insert slotCount hasBit withBit allowed headDamaged emptyBook lookupOf decide emptySlots replaced inserted loadLines loadOf wordsFrom walkOn logFloat L logOf highestOne significand nextBit nextSignificand bitsOf floatOf blocksOf walksOf edgesWithin choose routeOf stepsFrom piecesOf joined cutRoute singly runsOf parts partsOf wordsOfSize searched tokenOf putSpans putWalks cutBlock searchBlock cutAllBlock cutBlocks cutWith cutOf cutAllOf cutForSearchOf tokenizeOf leadingZeros span climb size odd units round neg sum add sub lt eq ofInt whole addOf answersOf answerOf bookAfter bookAfterAll ledgerAfter ledgerAfterAll ledgerAfterAdd ledgerAfterLoad enterLines enterIn frequencyIn sameWord
 same-on-pair zero zero h = refl
 same-on-pair zero (suc zero) h = refl
 same-on-pair (suc zero) zero h = refl
@@ -54,20 +56,39 @@ same-on-pair zero (suc (suc more)) h = absurd (omega arith)
 same-on-pair (suc zero) (suc more) h = absurd (omega arith)
 same-on-pair (suc (suc from)) more h = absurd (omega arith)
 
+one-cuts : (cutter : Cutter) → Answered cutter (oneBridge .book) lent command (commandAnswer cutter)
+unfolding charsOf charsWithin readFrom byteLength encode linesOf meaningOf fieldsOf pieces frequencyOf number whiteSpace inRanges cutClass han hanMain hanExtension asciiLetterOrDigit cutSign joins connector asciiLetter getOf walk wordAt wordNumber testedStep openStep bitsAt fromRoot nodeAt probeOf probeFrom nextSlot startSlot log2 keyOf filterHash keyBit childBit reach newSlots withBits withWord emptyFrom emptySlot extend insert slotCount hasBit withBit allowed headDamaged emptyBook lookupOf decide emptySlots replaced inserted loadLines loadOf wordsFrom walkOn logFloat L logOf highestOne significand nextBit nextSignificand bitsOf floatOf blocksOf walksOf edgesWithin choose routeOf stepsFrom piecesOf joined cutRoute singly runsOf parts partsOf wordsOfSize searched tokenOf putSpans putWalks cutBlock searchBlock cutAllBlock cutBlocks cutWith cutOf cutAllOf cutForSearchOf tokenizeOf leadingZeros span climb size odd units round neg sum add sub lt eq ofInt whole addOf answersOf answerOf bookAfter bookAfterAll ledgerAfter ledgerAfterAll ledgerAfterAdd ledgerAfterLoad enterLines enterIn frequencyIn sameWord
+one-cuts Cut = refl
+one-cuts CutAll = refl
+one-cuts CutForSearch = refl
+one-cuts (Tokenize Default) = refl
+one-cuts (Tokenize Search) = refl
+
+other-cuts : (cutter : Cutter) → Answered cutter (otherBridge .book) lent command (commandAnswer cutter)
+unfolding charsOf charsWithin readFrom byteLength encode linesOf meaningOf fieldsOf pieces frequencyOf number whiteSpace inRanges cutClass han hanMain hanExtension asciiLetterOrDigit cutSign joins connector asciiLetter getOf walk wordAt wordNumber testedStep openStep bitsAt fromRoot nodeAt probeOf probeFrom nextSlot startSlot log2 keyOf filterHash keyBit childBit reach newSlots withBits withWord emptyFrom emptySlot extend insert slotCount hasBit withBit allowed headDamaged emptyBook lookupOf decide emptySlots replaced inserted loadLines loadOf wordsFrom walkOn logFloat L logOf highestOne significand nextBit nextSignificand bitsOf floatOf blocksOf walksOf edgesWithin choose routeOf stepsFrom piecesOf joined cutRoute singly runsOf parts partsOf wordsOfSize searched tokenOf putSpans putWalks cutBlock searchBlock cutAllBlock cutBlocks cutWith cutOf cutAllOf cutForSearchOf tokenizeOf leadingZeros span climb size odd units round neg sum add sub lt eq ofInt whole addOf answersOf answerOf bookAfter bookAfterAll ledgerAfter ledgerAfterAll ledgerAfterAdd ledgerAfterLoad enterLines enterIn frequencyIn sameWord
+other-cuts Cut = refl
+other-cuts CutAll = refl
+other-cuts CutForSearch = refl
+other-cuts (Tokenize Default) = refl
+other-cuts (Tokenize Search) = refl
+
 pub not-vacuous : NotVacuous
-unfolding charsOf charsWithin readFrom byteLength encode linesOf meaningOf fieldsOf pieces frequencyOf number whiteSpace inRanges cutClass han hanMain hanExtension asciiLetterOrDigit cutSign getOf walk wordAt wordNumber testedStep openStep bitsAt fromRoot nodeAt probeOf probeFrom nextSlot startSlot log2 keyOf filterHash keyBit childBit reach newSlots withBits withWord emptyFrom emptySlot extend insert slotCount hasBit withBit allowed headDamaged emptyBook lookupOf decide emptySlots replaced inserted loadLines loadOf wordsFrom walkOn logFloat L logOf highestOne significand nextBit nextSignificand bitsOf floatOf blocksOf walksOf edgesWithin choose routeOf stepsFrom piecesOf joined cutRoute singly tokenOf putSpans cutBlock cutBlocks cutWith cutOf leadingZeros span climb size odd units round neg sum add sub lt eq ofInt whole addOf answersOf answerOf bookAfter bookAfterAll ledgerAfter ledgerAfterAll ledgerAfterAdd ledgerAfterLoad enterLines enterIn frequencyIn sameWord
+unfolding charsOf charsWithin readFrom byteLength encode linesOf meaningOf fieldsOf pieces frequencyOf number whiteSpace inRanges cutClass han hanMain hanExtension asciiLetterOrDigit cutSign joins connector asciiLetter getOf walk wordAt wordNumber testedStep openStep bitsAt fromRoot nodeAt probeOf probeFrom nextSlot startSlot log2 keyOf filterHash keyBit childBit reach newSlots withBits withWord emptyFrom emptySlot extend insert slotCount hasBit withBit allowed headDamaged emptyBook lookupOf decide emptySlots replaced inserted loadLines loadOf wordsFrom walkOn logFloat L logOf highestOne significand nextBit nextSignificand bitsOf floatOf blocksOf walksOf edgesWithin choose routeOf stepsFrom piecesOf joined cutRoute singly runsOf parts partsOf wordsOfSize searched tokenOf putSpans putWalks cutBlock searchBlock cutAllBlock cutBlocks cutWith cutOf cutAllOf cutForSearchOf tokenizeOf leadingZeros span climb size odd units round neg sum add sub lt eq ofInt whole addOf answersOf answerOf bookAfter bookAfterAll ledgerAfter ledgerAfterAll ledgerAfterAdd ledgerAfterLoad enterLines enterIn frequencyIn sameWord
 not-vacuous = record {
   stretches = same-on-command;
   totals = refl;
-  areas = record { work-areas = refl; edge-areas = refl; token-areas = refl };
+  equal = record { work-areas = refl; edge-areas = refl; token-areas = refl };
   answers = refl;
-  one-cut = refl;
-  other-cut = refl;
+  one-answered = one-cuts;
+  other-answered = other-cuts;
 }
 
 pub each-premise-needed : EachPremiseNeeded
-unfolding charsOf charsWithin readFrom byteLength encode linesOf meaningOf fieldsOf pieces frequencyOf number whiteSpace inRanges cutClass han hanMain hanExtension asciiLetterOrDigit cutSign getOf walk wordAt wordNumber testedStep openStep bitsAt fromRoot nodeAt probeOf probeFrom nextSlot startSlot log2 keyOf filterHash keyBit childBit reach newSlots withBits withWord emptyFrom emptySlot extend insert slotCount hasBit withBit allowed headDamaged emptyBook lookupOf decide emptySlots replaced inserted loadLines loadOf wordsFrom walkOn logFloat L logOf highestOne significand nextBit nextSignificand bitsOf floatOf blocksOf walksOf edgesWithin choose routeOf stepsFrom piecesOf joined cutRoute singly tokenOf putSpans cutBlock cutBlocks cutWith cutOf leadingZeros span climb size odd units round neg sum add sub lt eq ofInt whole addOf answersOf answerOf bookAfter bookAfterAll ledgerAfter ledgerAfterAll ledgerAfterAdd ledgerAfterLoad enterLines enterIn frequencyIn sameWord
+unfolding charsOf charsWithin readFrom byteLength encode linesOf meaningOf fieldsOf pieces frequencyOf number whiteSpace inRanges cutClass han hanMain hanExtension asciiLetterOrDigit cutSign joins connector asciiLetter getOf walk wordAt wordNumber testedStep openStep bitsAt fromRoot nodeAt probeOf probeFrom nextSlot startSlot log2 keyOf filterHash keyBit childBit reach newSlots withBits withWord emptyFrom emptySlot extend insert slotCount hasBit withBit allowed headDamaged emptyBook lookupOf decide emptySlots replaced inserted loadLines loadOf wordsFrom walkOn logFloat L logOf highestOne significand nextBit nextSignificand bitsOf floatOf blocksOf walksOf edgesWithin choose routeOf stepsFrom piecesOf joined cutRoute singly runsOf parts partsOf wordsOfSize searched tokenOf putSpans putWalks cutBlock searchBlock cutAllBlock cutBlocks cutWith cutOf cutAllOf cutForSearchOf tokenizeOf leadingZeros span climb size odd units round neg sum add sub lt eq ofInt whole addOf answersOf answerOf bookAfter bookAfterAll ledgerAfter ledgerAfterAll ledgerAfterAdd ledgerAfterLoad enterLines enterIn frequencyIn sameWord
 each-premise-needed = record {
+  totals = refl;
+  tied = refl;
+  not-tied = refl;
   stretches = same-on-pair;
   total-zero = refl;
   total-one = refl;

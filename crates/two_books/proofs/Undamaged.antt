@@ -8,7 +8,6 @@ use mathlib.Core.Logic.{_≢_}
 use mathlib.Core.Option.{Option, none, some}
 use Prim.Native.Nat.{ℕ, _+_, _-_, _%_}
 use native.Mathlib.Omega.{arith}
-use borrow.Author.Tests.{eqb-true, eqb-false}
 use lib.Dec.{eqb, leb, ltb}
 use lib.Ieee.{Float}
 use lib.ListN.{length}
@@ -17,7 +16,7 @@ use Rattle.utf8.specs.Encoding.{byteLength}
 use Rattle.score.specs.Logarithm.{logFloat}
 use Rattle.book.specs.declared.Outcome.{Outcome}
 use Rattle.book.specs.declared.Outcome.the-variants.{Done, BadAreas, TooLong, Malformed, Damaged, WorkTooShort, EdgesFull, TokensFull}
-use Rattle.book.specs.Returns.{numberOf, longestText}
+use Rattle.book.specs.Returns.{numberOf, isDone, longestText}
 use Rattle.book.specs.Prefixes.{Edge, Walked}
 use Rattle.cuts.specs.Blocks.{Block, blocksOf}
 use Rattle.cuts.specs.Edges.{Vocabulary, walksOf, Edges, edges, stopped, before, edgesWithin}
@@ -33,11 +32,11 @@ other : (o : Outcome) → (numberOf o ≡ 8 → ⊥) → o ≢ Damaged
 other o differs e = differs (ap numberOf e)
 
 fine-then : (a : CutAnswer) (next : Written → CutAnswer) → Fine a → ((w : Written) → Fine (next w)) → Fine (andThen a next)
-fine-then a next f g = by (eqb (numberOf (a .outcome)) 0) refl
+fine-then a next f g = by (isDone (a .outcome)) refl
   where
-    by : (z : Bool) → eqb (numberOf (a .outcome)) 0 ≡ z → Fine (andThen a next)
-    by true z = rw (goes-on a next (eqb-true _ 0 z)) (g (a .written))
-    by false z = rw (stops a next (eqb-false _ 0 z)) f
+    by : (z : Bool) → isDone (a .outcome) ≡ z → Fine (andThen a next)
+    by true z = rw (goes-on a next z) (g (a .written))
+    by false z = rw (stops a next z) f
 
 -- ---- tokens
 

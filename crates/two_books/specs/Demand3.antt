@@ -10,35 +10,13 @@ use lib.Dec.{leb}
 use lib.ListN.{length, take, drop}
 use Rattle.utf8.specs.Text.{charsOf}
 use Rattle.book.specs.declared.Outcome.the-variants.{Damaged}
-use Rattle.book.specs.Returns.{Book, longestText}
-use Rattle.built.specs.Ledger.{Entry, frequencyIn}
-use Rattle.built.specs.Calls.{Call, Answer, answerOf, allowedSizes, bookFrom, answersFrom, ledgerFrom}
-use Rattle.cuts.specs.declared.TokenizeMode.{TokenizeMode}
-use Rattle.cuts.specs.Cuts.{cutOf, cutAllOf, cutForSearchOf, tokenizeOf}
-use Rattle.two_books.specs.HeldWords.{heldCut, heldCutAll, heldCutForSearch, heldTokenize}
-
--- ---- a book built by calls
-
--- a "list of loads and additions, refused ones included", "from an empty book of its own with tables of any size that document 01 allows": texts are
--- any bytes, and frequencies any numbers
-pub record CallList : Type 0 where
-  pub roots : ℕ
-  pub slots : ℕ
-  pub records : ℕ
-  pub allowed : allowedSizes roots slots records
-  pub calls : List Call
-
--- "each call gets the book as the one before left it, and nobody else writes there"
-abbrev pub bookAfter : CallList → Book
-bookAfter l = bookFrom (l .roots) (l .slots) (l .records) (l .calls)
-
--- what the calls returned, in their order
-abbrev pub answersOf : CallList → List Answer
-answersOf l = answersFrom (l .roots) (l .slots) (l .records) (l .calls)
-
--- 01: "The ledger is fed each call's text and frequency and what the call returned, nothing from the book."
-abbrev pub ledgerAfter : CallList → List Entry
-ledgerAfter l = ledgerFrom (l .roots) (l .slots) (l .records) (l .calls)
+use Rattle.book.specs.declared.Found.{Found}
+use Rattle.book.specs.Returns.{Book, longestText, lookupOf}
+use Rattle.built.specs.Ledger.{Entry, frequencyIn, sumOf, EachOnce, ledgerLookup}
+use Rattle.built.specs.Calls.{Call, answerOf, bookFrom, answersFrom}
+use Rattle.cuts.specs.Cuts.{CutAnswer}
+use Rattle.two_books.specs.HeldWords.{heldAnswer}
+use Rattle.two_books.specs.Runs.{Run, ledgerOf, Cutter, Areas, Answered}
 
 -- ---- the sentence
 
@@ -61,60 +39,62 @@ SameStretches ledger ledger′ sentence =
 
 -- ---- the areas
 
--- "work areas of equal length and edge areas of equal length, whatever these hold, and token areas that are equal beforehand": the cuts' answers are
--- defined from the lengths of the first two alone
-pub record EqualAreas (work work′ room room′ : ℕ) (area area′ : List ℕ) : Type 0 where
-  pub work-areas : work ≡ work′
-  pub edge-areas : room ≡ room′
-  pub token-areas : area ≡ area′
+-- "work areas of equal length and edge areas of equal length, whatever these hold, and token areas that are equal beforehand"
+pub record EqualAreas (lent lent′ : Areas) : Type 0 where
+  pub work-areas : lent .work ≡ lent′ .work
+  pub edge-areas : lent .edges ≡ lent′ .edges
+  pub token-areas : lent .tokens ≡ lent′ .tokens
 
--- ---- what is claimed
+-- ---- what is claimed of each book
 
--- "each of the three cuts answers alike in both books": an answer is its number, its token count and the token area, "all of it"
-pub record AnswerAlike (b b′ : Book) (work work′ room room′ : ℕ) (area area′ sentence : List ℕ) : Type 0 where
-  pub cut : cutOf b work room area sentence ≡ cutOf b′ work′ room′ area′ sentence
-  pub cut-all : cutAllOf b work area sentence ≡ cutAllOf b′ work′ area′ sentence
-  pub cut-for-search : cutForSearchOf b work room area sentence ≡ cutForSearchOf b′ work′ room′ area′ sentence
-  pub tokenize : (mode : TokenizeMode) → tokenizeOf mode b work room area sentence ≡ tokenizeOf mode b′ work′ room′ area′ sentence
-
--- "The cuts' answers, refusals among them, are the ones that document 01 defines from the held words"; 01: "no cut meets damage there"
-pub record AnswersFromHeldWords (b : Book) (ledger : List Entry) (work room : ℕ) (area sentence : List ℕ) : Type 0 where
-  pub cut : cutOf b work room area sentence ≡ heldCut ledger work room area sentence
-  pub cut-all : cutAllOf b work area sentence ≡ heldCutAll ledger work area sentence
-  pub cut-for-search : cutForSearchOf b work room area sentence ≡ heldCutForSearch ledger work room area sentence
-  pub tokenize : (mode : TokenizeMode) → tokenizeOf mode b work room area sentence ≡ heldTokenize mode ledger work room area sentence
-  pub cut-undamaged : cutOf b work room area sentence .outcome ≢ Damaged
-  pub cut-all-undamaged : cutAllOf b work area sentence .outcome ≢ Damaged
-  pub cut-for-search-undamaged : cutForSearchOf b work room area sentence .outcome ≢ Damaged
+-- 01: "In a book of demand 3 a word is held exactly when the ledger has it; its frequency is the one there, and the total is the sum over the ledger",
+-- which "has words, each once". What is held is what the public lookup finds, of any bytes: whatever it answered, its contract holds of it.
+pub record HeldAsLedger (b : Book) (ledger : List Entry) : Type 0 where
+  pub lookups : (text : List ℕ) (found : Found) → found ≡ lookupOf b text → found ≡ ledgerLookup ledger text
+  pub total : b .head .total ≡ sumOf ledger
+  pub once : EachOnce ledger
 
 -- "each call of the lists answers as it defines for the book that call got": the answers are those of the calls before, then this one's, for the book
 -- that the calls before left, then those of the calls after
-abbrev pub AnswersInTurn : CallList → Type 0
-AnswersInTurn l =
-    (earlier : List Call) (call : Call) (later : List Call) → l .calls ≡ earlier ++ (call ∷ later)
-    → take (suc (length earlier)) (answersOf l)
-    ≡ answersFrom (l .roots) (l .slots) (l .records) earlier ++ (answerOf (bookFrom (l .roots) (l .slots) (l .records) earlier) call ∷ [])
+abbrev pub AnswersInTurn : Run → Type 0
+AnswersInTurn r =
+    (earlier : List Call) (call : Call) (later : List Call) → r .calls ≡ earlier ++ (call ∷ later)
+    → take (suc (length earlier)) (r .answers)
+    ≡ answersFrom (r .roots) (r .slots) (r .records) earlier ++ (answerOf (bookFrom (r .roots) (r .slots) (r .records) earlier) call ∷ [])
 
--- what holds of two lists of calls and a sentence
-pub record TwoBooks (l l′ : CallList) (work work′ room room′ : ℕ) (area area′ sentence : List ℕ) : Type 0 where
-  pub alike : AnswerAlike (bookAfter l) (bookAfter l′) work work′ room room′ area area′ sentence
-  pub from-held-words : AnswersFromHeldWords (bookAfter l) (ledgerAfter l) work room area sentence
-  pub from-held-words′ : AnswersFromHeldWords (bookAfter l′) (ledgerAfter l′) work′ room′ area′ sentence
-  pub in-turn : AnswersInTurn l
-  pub in-turn′ : AnswersInTurn l′
+-- "The cuts' answers, refusals among them, are the ones that document 01 defines from the held words"; 01: "no cut meets damage there"
+pub record FromHeldWords (ledger : List Entry) (cutter : Cutter) (lent : Areas) (sentence : List ℕ) (a : CutAnswer) : Type 0 where
+  pub defined : a ≡ heldAnswer cutter ledger lent sentence
+  pub undamaged : a .outcome ≢ Damaged
+
+-- ---- what is claimed of the two
+
+pub record TwoBooks (r r′ : Run) (cutter : Cutter) (lent lent′ : Areas) (sentence : List ℕ) (a a′ : CutAnswer) : Type 0 where
+  -- "the same number, the same token count, the same token area, all of it"
+  pub alike : a ≡ a′
+  pub from-held-words : FromHeldWords (ledgerOf r) cutter lent sentence a
+  pub from-held-words′ : FromHeldWords (ledgerOf r′) cutter lent′ sentence a′
+  pub held-as-ledger : HeldAsLedger (r .book) (ledgerOf r)
+  pub held-as-ledger′ : HeldAsLedger (r′ .book) (ledgerOf r′)
+  pub in-turn : AnswersInTurn r
+  pub in-turn′ : AnswersInTurn r′
 
 abbrev pub Demand3 : Type 0
 Demand3 =
-    -- "For every two lists of loads and additions"
-    (l l′ : CallList)
+    -- "For every two lists of loads and additions, .. each from an empty book of its own": whatever the calls returned and left, their contracts hold of it
+    (r r′ : Run)
     -- "After them take any sentence"
     (sentence : List ℕ)
     -- "where every stretch of consecutive characters is a word of both books with the same frequency, or a word of neither"
-    → SameStretches (ledgerAfter l) (ledgerAfter l′) sentence
+    → SameStretches (ledgerOf r) (ledgerOf r′) sentence
     -- "and let the two totals be equal"
-    → bookAfter l .head .total ≡ bookAfter l′ .head .total
+    → r .book .head .total ≡ r′ .book .head .total
     -- "The two cuts get work areas of equal length and edge areas of equal length, .. and token areas that are equal beforehand."
-    → (work work′ room room′ : ℕ) (area area′ : List ℕ)
-    → EqualAreas work work′ room room′ area area′
+    → (lent lent′ : Areas)
+    → EqualAreas lent lent′
+    -- "each of the three cuts": whatever it answered in each book, its contract holds of it
+    → (cutter : Cutter) (a a′ : CutAnswer)
+    → Answered cutter (r .book) lent sentence a
+    → Answered cutter (r′ .book) lent′ sentence a′
     -- "Then each of the three cuts answers alike in both books, whatever other words either holds"
-    → TwoBooks l l′ work work′ room room′ area area′ sentence
+    → TwoBooks r r′ cutter lent lent′ sentence a a′

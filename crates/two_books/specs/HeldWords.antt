@@ -9,6 +9,7 @@ use Rattle.cuts.specs.declared.TokenizeMode.{TokenizeMode}
 use Rattle.cuts.specs.declared.TokenizeMode.the-variants.{Default, Search}
 use Rattle.cuts.specs.Edges.{Vocabulary}
 use Rattle.cuts.specs.Cuts.{CutAnswer, Tested, cutBy, cutAllBy, cutForSearchBy}
+use Rattle.two_books.specs.Runs.{Cutter, Cut, CutAll, CutForSearch, Tokenize, Areas}
 
 -- what a cut sees: the held words that start at a position, each with L of its frequency, and the sum over the ledger
 abbrev pub heldVocabulary : List Entry → Vocabulary
@@ -31,3 +32,10 @@ heldCutForSearch ledger work room area sentence = cutForSearchBy sound (heldVoca
 unfoldable pub heldTokenize : TokenizeMode → List Entry → ℕ → ℕ → List ℕ → List ℕ → CutAnswer
 heldTokenize Default ledger work room area sentence = heldCut ledger work room area sentence
 heldTokenize Search ledger work room area sentence = heldCutForSearch ledger work room area sentence
+
+-- each of the cuts, by the areas that it is lent
+abbrev pub heldAnswer : Cutter → List Entry → Areas → List ℕ → CutAnswer
+heldAnswer Cut ledger lent sentence = heldCut ledger (lent .work) (lent .edges) (lent .tokens) sentence
+heldAnswer CutAll ledger lent sentence = heldCutAll ledger (lent .work) (lent .tokens) sentence
+heldAnswer CutForSearch ledger lent sentence = heldCutForSearch ledger (lent .work) (lent .edges) (lent .tokens) sentence
+heldAnswer (Tokenize mode) ledger lent sentence = heldTokenize mode ledger (lent .work) (lent .edges) (lent .tokens) sentence

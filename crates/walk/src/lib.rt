@@ -11,6 +11,7 @@ ghost use lib.ListN.{length};
 ghost use Prim.Native.Nat.{ℕ, _-_, _^_, _<_};
 ghost use Rattle.trie.specs.Trie.{log2, SlotCount, openStep, testedStep, wordAt, trieOf};
 ghost use Rattle.trie.specs.declared.ParentRef.the-variants.{Root};
+ghost use Rattle.trie.specs.Lent.{was, trieLent};
 ghost use Rattle.utf8.specs.Text.{charsOf};
 ghost use Rattle.walk.specs.Walk.{EquallyLong, Inside, BeginsWith, firstStep, walkFrom, gotOf, newSteps, roomOf};
 use trie::Got;
@@ -38,7 +39,7 @@ pub fn root_step(root_children: &[u32], keys: &[u64], shift: u32, ch: u32) -> St
     requires { ⌜ SlotCount (length (now keys)) ⌝ }
     requires { ⌜ shift ≡ 64 - log2 (length (now keys)) ⌝ }
     requires { ⌜ ch < 2 ^ 21 ⌝ }
-    ensures { λ r. ⌜ r ≡ firstStep (now («root_children» .entry)) (now (keys .entry)) ch ⌝ }
+    ensures { λ r. ⌜ r ≡ firstStep (was «root_children») (was keys) ch ⌝ }
 {
     let i = ch as usize;
     if i < root_children.len() {
@@ -62,7 +63,7 @@ pub fn tested_step(
     requires { ⌜ (length (now children) ≡ length (now keys)) × SlotCount (length (now keys)) ⌝ }
     requires { ⌜ shift ≡ 64 - log2 (length (now keys)) ⌝ }
     requires { ⌜ Inside (length (now «root_children»)) (length (now keys)) place × (ch < 2 ^ 21) ⌝ }
-    ensures { λ r. ⌜ ((rootWords words : List ℤ) → r ≡ testedStep (trieOf (now («root_children» .entry)) rootWords (now (keys .entry)) (now (children .entry)) words) place ch) ⌝ }
+    ensures { λ r. ⌜ ((rootWords words : List ℤ) → r ≡ testedStep (trieOf (was «root_children») rootWords (was keys) (was children) words) place ch) ⌝ }
 {
     match place {
         ParentRef::Root => root_step(root_children, keys, shift, ch),
@@ -86,7 +87,7 @@ pub fn open_step(
     requires { ⌜ (length (now children) ≡ length (now keys)) × SlotCount (length (now keys)) ⌝ }
     requires { ⌜ shift ≡ 64 - log2 (length (now keys)) ⌝ }
     requires { ⌜ Inside (length (now «root_children»)) (length (now keys)) place × (ch < 2 ^ 21) ⌝ }
-    ensures { λ r. ⌜ ((rootWords words : List ℤ) → r ≡ openStep (trieOf (now («root_children» .entry)) rootWords (now (keys .entry)) (now (children .entry)) words) place ch) ⌝ }
+    ensures { λ r. ⌜ ((rootWords words : List ℤ) → r ≡ openStep (trieOf (was «root_children») rootWords (was keys) (was children) words) place ch) ⌝ }
 {
     match place {
         ParentRef::Root => root_step(root_children, keys, shift, ch),
@@ -103,7 +104,7 @@ pub fn open_step(
 // What the word number at a place says.
 pub fn word_at(root_words: &[i32], words: &[i32], used: usize, place: ParentRef) -> WordNumber
     requires { ⌜ Inside (length (now «root_words»)) (length (now words)) place ⌝ }
-    ensures { λ r. ⌜ ((rootChildren keys children : List ℕ) → r ≡ wordAt used (trieOf rootChildren (now («root_words» .entry)) keys children (now (words .entry))) place) ⌝ }
+    ensures { λ r. ⌜ ((rootChildren keys children : List ℕ) → r ≡ wordAt used (trieOf rootChildren (was «root_words») keys children (was words)) place) ⌝ }
 {
     match place {
         ParentRef::Root => WordNumber::NoWord,
@@ -117,7 +118,7 @@ fn walk(root_children: &[u32], keys: &[u64], children: &[u32], shift: u32, s: &[
     requires { ⌜ (length (now children) ≡ length (now keys)) × SlotCount (length (now keys)) ⌝ }
     requires { ⌜ shift ≡ 64 - log2 (length (now keys)) ⌝ }
     requires { ⌜ IsSome (charsOf (now s)) ⌝ }
-    ensures { λ r. ⌜ ((rootWords words : List ℤ) → r ≡ walkFrom (trieOf (now («root_children» .entry)) rootWords (now (keys .entry)) (now (children .entry)) words) Root (charsOf (now (s .entry)))) ⌝ }
+    ensures { λ r. ⌜ ((rootWords words : List ℤ) → r ≡ walkFrom (trieOf (was «root_children») rootWords (was keys) (was children) words) Root (charsOf (was s))) ⌝ }
 {
     let mut at: usize = 0;
     let mut place = ParentRef::Root;
@@ -154,7 +155,7 @@ pub fn get(
     requires { ⌜ SlotCount (length (now keys)) ⌝ }
     requires { ⌜ shift ≡ 64 - log2 (length (now keys)) ⌝ }
     requires { ⌜ IsSome (charsOf (now s)) ⌝ }
-    ensures { λ r. ⌜ r ≡ gotOf used (trieOf (now («root_children» .entry)) (now («root_words» .entry)) (now (keys .entry)) (now (children .entry)) (now (words .entry))) (charsOf (now (s .entry))) ⌝ }
+    ensures { λ r. ⌜ r ≡ gotOf used (trieLent «root_children» «root_words» keys children words) (charsOf (was s)) ⌝ }
 {
     match walk(root_children, keys, children, shift, s) {
         Step::At(place) => match word_at(root_words, words, used, place) {
@@ -171,7 +172,7 @@ pub fn get(
 // each but for a first character that the root table serves.
 fn new_steps(root_children: &[u32], place: ParentRef, ch: u32, s: &[u8]) -> Room
     requires { ⌜ BeginsWith ch (charsOf (now s)) ⌝ }
-    ensures { λ r. ⌜ ((rootWords words : List ℤ) (keys children cs : List ℕ) → charsOf (now (s .entry)) ≡ some cs → r ≡ newSteps (trieOf (now («root_children» .entry)) rootWords keys children words) place cs) ⌝ }
+    ensures { λ r. ⌜ ((rootWords words : List ℤ) (keys children cs : List ℕ) → charsOf (was s) ≡ some cs → r ≡ newSteps (trieOf (was «root_children») rootWords keys children words) place cs) ⌝ }
 {
     let CharCount::Chars(nodes) = utf8::char_count(s) else {
         return Room::Damaged;
@@ -204,7 +205,7 @@ pub fn room_for(
     requires { ⌜ SlotCount (length (now keys)) ⌝ }
     requires { ⌜ shift ≡ 64 - log2 (length (now keys)) ⌝ }
     requires { ⌜ IsSome (charsOf (now s)) ⌝ }
-    ensures { λ r. ⌜ r ≡ roomOf used (trieOf (now («root_children» .entry)) (now («root_words» .entry)) (now (keys .entry)) (now (children .entry)) (now (words .entry))) (charsOf (now (s .entry))) ⌝ }
+    ensures { λ r. ⌜ r ≡ roomOf used (trieLent «root_children» «root_words» keys children words) (charsOf (was s)) ⌝ }
 {
     let mut at: usize = 0;
     let mut place = ParentRef::Root;

@@ -1,6 +1,6 @@
 //! What the tests share. Each file uses a part of it.
 #![allow(dead_code)]
-use tongsvale::{Areas, Dictionary, Error, LoadError, Scratch, Stopped, Tokens};
+use tongsvale::{Areas, Dictionary, Error, LoadError, Scratch, Stopped, TokenizeMode, Tokens};
 
 /// Document 01's book A.
 pub const BOOK_A: &str = "打开 256\n开灯 256\n打 64\n开 64\n灯 128\n客厅 128\n客厅灯 64\n厅灯 64\n";
@@ -66,17 +66,35 @@ pub fn cut<'s>(dictionary: &Dictionary, sentence: &'s str) -> (u32, Vec<&'s str>
     words(dictionary.cut(sentence, &mut scratch(64, 64, 64)))
 }
 
+pub fn cut_for_search<'s>(dictionary: &Dictionary, sentence: &'s str) -> (u32, Vec<&'s str>) {
+    words(dictionary.cut_for_search(sentence, &mut scratch(64, 64, 64)))
+}
+
 pub fn cut_all<'s>(dictionary: &Dictionary, sentence: &'s str) -> (u32, Vec<&'s str>) {
     words(dictionary.cut_all(sentence, &mut scratch(64, 64, 64)))
 }
 
-/// The number of a cut and of a cut into all words that are refused before they begin: no token, and every area unchanged.
+/// A cut of bytes, by its name or by a mode.
+pub type CutBytes = for<'s, 't> fn(&Dictionary, &'s [u8], &'t mut Scratch) -> Result<Tokens<'s, 't>, Stopped<'s, 't>>;
+
+/// Every call that cuts, `tokenize` in both modes.
+pub const CUTS: [(&str, CutBytes); 5] = [
+    ("cut", Dictionary::cut_bytes),
+    ("cut_for_search", Dictionary::cut_for_search_bytes),
+    ("tokenize by default", |d, sentence, scratch| d.tokenize_bytes(sentence, TokenizeMode::Default, scratch)),
+    ("tokenize for search", |d, sentence, scratch| d.tokenize_bytes(sentence, TokenizeMode::Search, scratch)),
+    ("cut_all", Dictionary::cut_all_bytes),
+];
+
+/// The number of all cuts of a sentence, that are refused before they begin: no token, and every area unchanged.
 #[track_caller]
-pub fn refused_cuts(dictionary: &Dictionary, sentence: &[u8], scratch: &Scratch) -> (u32, u32) {
+pub fn refused_cuts(dictionary: &Dictionary, sentence: &[u8], scratch: &Scratch) -> u32 {
     let mut after = scratch.clone();
-    let (one, tokens) = words(dictionary.cut_bytes(sentence, &mut after));
-    assert!(tokens.is_empty() && &after == scratch, "a refused cut has written");
-    let (all, tokens) = words(dictionary.cut_all_bytes(sentence, &mut after));
-    assert!(tokens.is_empty() && &after == scratch, "a refused cut into all words has written");
-    (one, all)
+    let numbers = CUTS.map(|(name, cut)| {
+        let (number, tokens) = words(cut(dictionary, sentence, &mut after));
+        assert!(tokens.is_empty() && &after == scratch, "{name}, refused, has written");
+        number
+    });
+    assert_eq!(numbers, [numbers[0]; CUTS.len()], "the cuts are refused with different numbers");
+    numbers[0]
 }

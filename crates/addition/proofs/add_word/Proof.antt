@@ -1,8 +1,9 @@
--- `addition::add_word` meets its contract: each `return` is the case of `addOf` that the tests before it say, and behind them the word enters as
--- `load_entry` says. Assumes nothing.
+-- `addition::add_word` meets its contract: each `return` is the case of `addOf` that the tests before it say, and so in numbers; behind them the word
+-- enters as `load_entry` says. Assumes nothing.
 use borrow.Author.Needs.{needs}
 use native.Mathlib.Omega.{arith}
 use Rattle.book.proofs.Areas.{slot-count}
+use Rattle.book.proofs.Numbers.{added-in-numbers}
 use Rattle.lookup.proofs.Tests.{passed, well-formed}
 use Rattle.addition.proofs.Additions.{refused, empty, too-frequent, answered}
 use Rattle.addition.proofs.add_word.Statement.{statement}
@@ -21,7 +22,7 @@ returns : tie.Need-returns
 returns c =
     let not-passed = c .before .before in
     let tested = not-passed .before .before in
-    refused _ _ _ _ _ _ (tested .test-word .ensures) (not-passed .outcome .given .1) (c .not-added .ensures)
+    added-in-numbers (refused _ _ _ _ _ _ (tested .test-word .ensures) (not-passed .outcome .given .1) (c .not-added .ensures))
 
 enum-told : tie.Need-enum-told
 enum-told c = search needs
@@ -33,7 +34,7 @@ returns-2 : tie.Need-returns-2
 returns-2 c =
     let told = c .before in
     let tested = told .before .before in
-    empty _ _ _ _ _ _ (tested .test-word .ensures) (told .enum-told .given .1) (c .not-added2 .ensures)
+    added-in-numbers (empty _ _ _ _ _ _ (tested .test-word .ensures) (told .enum-told .given .1) (c .not-added2 .ensures))
 
 enum-told-2 : tie.Need-enum-told-2
 enum-told-2 c = search needs
@@ -46,7 +47,7 @@ returns-3 c =
     let too-many = c .before in
     let told = too-many .before in
     let tested = told .before .before in
-    too-frequent _ _ _ _ _ _ (tested .test-word .ensures) (told .enum-told2 .given .1) (omega (arith, too-many .if1 .taken)) (c .not-added3 .ensures)
+    added-in-numbers (too-frequent _ _ _ _ _ _ (tested .test-word .ensures) (told .enum-told2 .given .1) (omega (arith, too-many .if1 .taken)) (c .not-added3 .ensures))
 
 shift-of-requires : tie.Need-shift-of-requires
 shift-of-requires c κs =
@@ -97,7 +98,7 @@ returns-4 c =
     let fits = shifted .before in
     let told = fits .before in
     let tested = told .before .before in
-    answered _ _ _ _ _ _ (tested .test-word .ensures) (told .enum-told2 .given .1) (omega (arith, fits .if1 .left)) _ _ _ (enters .load-entry .ensures) (c .added-by .ensures)
+    added-in-numbers (answered _ _ _ _ _ _ (tested .test-word .ensures) (told .enum-told2 .given .1) (omega (arith, fits .if1 .left)) _ _ _ (enters .load-entry .ensures) (c .added-by .ensures))
 
 pub add-word-spec : {M : Type 1} → statement M
 add-word-spec =

@@ -2,10 +2,12 @@
 -- Assumes nothing.
 use Prim.Native.Nat.{ℕ}
 use mathlib.Core.List.{List}
-use mathlib.Core.Path.{_≡_, sym, _∙_}
+use mathlib.Core.Bool.{true}
+use mathlib.Core.Path.{_≡_, refl, sym, _∙_}
 use borrow.Author.Needs.{needs}
-use Rattle.book.specs.Returns.{numberOf}
-use Rattle.cut_all.proofs.Sentences.{Tests, tested, is-refused, unchanged, slots, long, short, some-chars, room-chars, room-offsets, is-cut, not-refused}
+use borrow.Author.Tests.{not-true, not-false}
+use Rattle.book.specs.Returns.{isDone}
+use Rattle.cut_all.proofs.Sentences.{Tests, tested, is-refused, slots, long, short, some-chars, room-chars, room-offsets, is-cut, has-begun-here}
 use Rattle.cut_all.proofs.cut_all.Statement.{statement}
 use Rattle.cut_all.proofs.cut_all.Tie as tie
 
@@ -17,8 +19,8 @@ tests : (c : tie.After-begin)
 tests c = tested _ _ _ _ _ _ _ _ _ _ _ _ _ _ (c .before .before .shorter .ensures) (c .begin .ensures)
 
 -- they pass the sentence
-passed : (c : tie.Else1) → numberOf (c .before .before .begin .result) ≡ 0
-passed c = sym (c .before .number-of .ensures) ∙ c .if1 .left
+passed : (c : tie.Else1) → isDone (c .before .before .begin .result) ≡ true
+passed c = sym (c .before .is-done .ensures) ∙ not-false _ (c .if1 .left)
 
 -- the token area after the blocks
 abbrev area : tie.After-cut-all-blocks → List ℕ
@@ -30,16 +32,15 @@ shorter-requires c κs = search needs
 begin-requires : tie.Need-begin-requires
 begin-requires c κs = search needs
 
-number-of-requires : tie.Need-number-of-requires
-number-of-requires c κs = search needs
+is-done-requires : tie.Need-is-done-requires
+is-done-requires c κs = search needs
 
 same-length : tie.Need-same-length
 same-length c = search needs
 
 returns : tie.Need-returns
 returns c =
-    let tested = tests (c .before .before) in
-    (is-refused tested (λ e. c .if1 .taken (c .before .number-of .ensures ∙ e)), unchanged tested)
+    (is-refused (tests (c .before .before)) (sym (c .before .is-done .ensures) ∙ not-true _ (c .if1 .taken)), λ none. (refl, refl))
 
 shift-of-requires : tie.Need-shift-of-requires
 shift-of-requires c κs = slots (tests (c .before .before)) (passed c)
@@ -68,7 +69,7 @@ returns-2 c =
     let test = cut .before .before .before .before .before in
     let tested = tests (test .before .before) in
     let done = passed test in
-    (is-cut tested done (cut .cut-all-blocks .result) (area cut) (cut .cut-all-blocks .ensures), not-refused tested done _ _)
+    (is-cut tested done (cut .cut-all-blocks .result) (area cut) (cut .cut-all-blocks .ensures), λ none. absurd (has-begun-here tested done none))
 
 pub cut-all-spec : {M : Type 1} → statement M
 cut-all-spec =
@@ -76,7 +77,7 @@ cut-all-spec =
     (tie.spec
     shorter-requires
     begin-requires
-    number-of-requires
+    is-done-requires
     same-length
     returns
     shift-of-requires

@@ -7,6 +7,7 @@ use mathlib.Core.Path.{sym, _∙_}
 use native.Mathlib.Omega.{arith}
 use lib.ListN.{length, take}
 use borrow.Author.Needs.{needs}
+use borrow.Author.Tests.{not-true, not-false}
 use Rattle.cut_all.proofs.Blocks.{Cutting, BlockCut, begins, room-chars, room-offsets, run-in-offsets, run-in-text, matched-cut, unmatched-cut, as-answered, ends-here, ends-stopped, goes-behind}
 use Rattle.cut_all.proofs.cut_all_blocks.Statement.{statement}
 use Rattle.cut_all.proofs.cut_all_blocks.Tie as tie
@@ -54,7 +55,7 @@ next-recording-requires c κs =
     let loop = c .before .before .before in
     let entry = start loop in
     let room = entry .pre .1 .1 .1 in (
-      (c .before .before .loop-test .taken, entry .pre .1 .1 .0 .0, loop .loop .inv .well-formed),
+      (omega (arith, c .before .before .loop-test), entry .pre .1 .1 .0 .0, loop .loop .inv .well-formed),
       (room-chars (loop .loop .inv) (room .0), room-offsets (loop .loop .inv) (room .1)),
     )
 
@@ -87,8 +88,8 @@ cut-all-unmatched-requires c κs =
       run-in-text (loop .loop .inv) recorded (entry .pre .1 .1 .0 .0),
     )
 
-number-of-requires : tie.Need-number-of-requires Inv-loop μ-loop
-number-of-requires c κs = search needs
+is-done-requires : tie.Need-is-done-requires Inv-loop μ-loop
+is-done-requires c κs = search needs
 
 same-length : tie.Need-same-length Inv-loop μ-loop
 same-length c =
@@ -109,7 +110,7 @@ returns : tie.Need-returns Inv-loop μ-loop
 returns c =
     let cut = c .before .before in
     let run = run cut in
-    ends-stopped (head run .loop .inv) (run .next-recording .ensures) (block cut) (λ e. c .if2 .taken (c .before .number-of .ensures ∙ e))
+    ends-stopped (head run .loop .inv) (run .next-recording .ensures) (block cut) (sym (c .before .is-done .ensures) ∙ not-true _ (c .if2 .taken))
 
 cast-base : tie.Need-cast-base Inv-loop μ-loop
 cast-base c =
@@ -130,7 +131,7 @@ loop-again : tie.Need-loop-again Inv-loop μ-loop
 loop-again c =
     let cut = c .before .before in
     let run = run cut in
-    goes-behind (head run .loop .inv) (run .next-recording .ensures) (block cut) (sym (c .before .number-of .ensures) ∙ c .if2 .left)
+    goes-behind (head run .loop .inv) (run .next-recording .ensures) (block cut) (sym (c .before .is-done .ensures) ∙ not-false _ (c .if2 .left))
     (run .next-recording .kept .1 .1 .1 .0) (run .next-recording .kept .1 .1 .1 .1 .0)
 
 same-length-4 : tie.Need-same-length-4 Inv-loop μ-loop
@@ -156,7 +157,7 @@ cut-all-blocks-spec =
     next-recording-requires
     cut-all-tokens-requires
     cut-all-unmatched-requires
-    number-of-requires
+    is-done-requires
     same-length
     same-length-2
     same-length-3

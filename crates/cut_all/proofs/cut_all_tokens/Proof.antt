@@ -5,6 +5,7 @@ use Prim.Native.Nat.{ℕ, _-_}
 use mathlib.Core.List.{List}
 use mathlib.Core.Path.{sym, _∙_}
 use borrow.Author.Needs.{needs}
+use borrow.Author.Tests.{not-true, not-false}
 use Rattle.cut_all.proofs.Positions.{Positioned, begins, ends-here, ends-stopped, goes-behind}
 use Rattle.cut_all.proofs.cut_all_tokens.Statement.{statement}
 use Rattle.cut_all.proofs.cut_all_tokens.Tie as tie
@@ -35,8 +36,8 @@ words-at-requires c κs =
     let block = entry .pre .1 .1 in
     (entry .pre .0, (entry .pre .1 .0, (c .before .loop-test .taken, block .0, block .1, block .2, block .3)))
 
-number-of-requires : tie.Need-number-of-requires Inv-loop μ-loop
-number-of-requires c κs = search needs
+is-done-requires : tie.Need-is-done-requires Inv-loop μ-loop
+is-done-requires c κs = search needs
 
 same-length : tie.Need-same-length Inv-loop μ-loop
 same-length c = search
@@ -46,7 +47,7 @@ returns c =
     let put = c .before .before .before .before in
     let loop = put .before .before .before in
     ends-stopped (loop .loop .inv) (start loop .pre .1 .1 .0) (put .before .before .loop-test .taken) (put .words-at .result) (area put) (put .words-at .ensures)
-    (λ e. c .if1 .taken (c .before .number-of .ensures ∙ e))
+    (sym (c .before .is-done .ensures) ∙ not-true _ (c .if1 .taken))
 
 add-at : tie.Need-add-at Inv-loop μ-loop
 add-at c = search needs
@@ -59,7 +60,7 @@ loop-again c =
     let put = c .before .before .before .before in
     let loop = put .before .before .before in
     goes-behind (loop .loop .inv) (start loop .pre .1 .1 .0) (put .before .before .loop-test .taken) (put .words-at .result) (area put) (put .words-at .ensures)
-    (sym (c .before .number-of .ensures) ∙ c .if1 .left)
+    (sym (c .before .is-done .ensures) ∙ not-false _ (c .if1 .left))
     (put .words-at .kept .1 .1 .1 .1 .1 .1 .1 .1 .1 .1 .1 .1 .0)
 
 same-length-2 : tie.Need-same-length-2 Inv-loop μ-loop
@@ -77,7 +78,7 @@ cut-all-tokens-spec =
     μ-loop
     loop-holds
     words-at-requires
-    number-of-requires
+    is-done-requires
     same-length
     returns
     add-at

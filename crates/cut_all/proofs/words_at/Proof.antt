@@ -5,6 +5,7 @@ use Prim.Native.Nat.{_-_}
 use mathlib.Core.Path.{sym, _∙_}
 use native.Mathlib.Omega.{arith}
 use borrow.Author.Needs.{needs}
+use borrow.Author.Tests.{not-true, not-false}
 use Rattle.walk.proofs.Places.{word-inside}
 use Rattle.cut_all.proofs.Walks.{Walking, begins, next-inside, ends-here, ends-nothing, ends-damaged, ends-bad, ends-full, goes-past, goes-behind}
 use Rattle.cut_all.proofs.words_at.Statement.{statement}
@@ -105,8 +106,8 @@ emit-span-requires c κs =
     let entry = start loop in
     (omega (arith, loop .loop .inv .first), omega (arith, entry .pre .1 .1), omega (arith, entry .pre .1 .1))
 
-number-of-requires : tie.Need-number-of-requires Inv-loop μ-loop
-number-of-requires c κs = search needs
+is-done-requires : tie.Need-is-done-requires Inv-loop μ-loop
+is-done-requires c κs = search needs
 
 same-length-3 : tie.Need-same-length-3 Inv-loop μ-loop
 same-length-3 c = search
@@ -122,7 +123,7 @@ returns-3 c =
     let entry = start loop in
     ends-full (loop .loop .inv) (entry .pre .1 .1 .1) (step .before .before .loop-test .taken) (step .tested-step .ensures) (child .child .given .1)
     (number .word-at .ensures) (told .enum-told4 .given .1) (put .emit-span .result) _ (put .emit-span .ensures)
-    (λ e. c .if1 .taken (c .before .number-of .ensures ∙ e))
+    (sym (c .before .is-done .ensures) ∙ not-true _ (c .if1 .taken))
 
 loop-less-2 : tie.Need-loop-less-2 Inv-loop μ-loop
 loop-less-2 c = search needs
@@ -138,7 +139,7 @@ loop-again-2 c =
     let entry = start loop in
     goes-behind (loop .loop .inv) (entry .pre .1 .1 .1) (step .before .before .loop-test .taken) (step .tested-step .ensures) (child .child .given .1)
     (number .word-at .ensures) (told .enum-told4 .given .1) (put .emit-span .result) _ (put .emit-span .ensures)
-    (entry .pre .1 .0 .0) (sym (c .before .number-of .ensures) ∙ c .if1 .left) (put .emit-span .kept .1 .1 .1 .1 .0)
+    (entry .pre .1 .0 .0) (sym (c .before .is-done .ensures) ∙ not-false _ (c .if1 .left)) (put .emit-span .kept .1 .1 .1 .1 .0)
 
 enum-told-5 : tie.Need-enum-told-5 Inv-loop μ-loop
 enum-told-5 c = search needs
@@ -187,7 +188,7 @@ words-at-spec =
     loop-again
     enum-told-4
     emit-span-requires
-    number-of-requires
+    is-done-requires
     same-length-3
     returns-3
     loop-less-2

@@ -1,10 +1,11 @@
--- `dict::load_dict` meets its contract: each `return` is the case of `loadOf` that the tests before it say, and behind them the lines from the first
--- position on are the whole text. Assumes nothing.
+-- `dict::load_dict` meets its contract: each `return` is the case of `loadOf` that the tests before it say, and so in numbers; behind them the lines from
+-- the first position on are the whole text. Assumes nothing.
 use mathlib.Core.Path.{sym, _∙_}
 use native.Mathlib.Omega.{arith}
 use borrow.Author.Needs.{needs}
 use borrow.Author.Tests.{not-false}
 use Rattle.book.proofs.Areas.{slot-count}
+use Rattle.book.proofs.Numbers.{loaded-in-numbers}
 use Rattle.dict.proofs.Loads.{areas-refused, too-long, all-loaded}
 use Rattle.dict.proofs.load_dict.Statement.{statement}
 use Rattle.dict.proofs.load_dict.Tie as tie
@@ -13,12 +14,12 @@ is-allowed-requires : tie.Need-is-allowed-requires
 is-allowed-requires c κs = search needs
 
 returns : tie.Need-returns
-returns c = areas-refused _ _ (c .before .is-allowed .ensures) (c .if1 .taken)
+returns c = loaded-in-numbers (areas-refused _ _ (c .before .is-allowed .ensures) (c .if1 .taken))
 
 returns-2 : tie.Need-returns-2
 returns-2 c =
     let sized = c .before in
-    too-long _ _ (sized .before .is-allowed .ensures) (sized .if1 .left) (omega (arith, c .if2 .taken))
+    loaded-in-numbers (too-long _ _ (sized .before .is-allowed .ensures) (sized .if1 .left) (omega (arith, c .if2 .taken)))
 
 shift-of-requires : tie.Need-shift-of-requires
 shift-of-requires c κs =
@@ -59,7 +60,7 @@ returns-3 c =
     let shifted = loads .before .before .before .before .before .before .before .before in
     let short = shifted .before in
     let sized = short .before in
-    all-loaded _ _ (sized .before .is-allowed .ensures) (sized .if1 .left) (omega (arith, short .if2 .left)) (loads .load-lines .ensures)
+    loaded-in-numbers (all-loaded _ _ (sized .before .is-allowed .ensures) (sized .if1 .left) (omega (arith, short .if2 .left)) (loads .load-lines .ensures))
 
 pub load-dict-spec : {M : Type 1} → statement M
 load-dict-spec =

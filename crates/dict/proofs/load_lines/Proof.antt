@@ -21,7 +21,7 @@ abbrev μ-loop : tie.MeasureT-loop
 loop-holds : tie.Need-loop-holds Inv-loop μ-loop
 loop-holds c = begins _ _
 
--- ---- the places of the code: the book and the text are lent, and a turn finds a line's end, enters the line and numbers the answer
+-- ---- the places of the code: the book and the text are lent, and a turn finds a line's end, enters the line and tests the answer
 
 abbrev lent : tie.At-loop Inv-loop μ-loop → tie.Start Inv-loop μ-loop
 lent c = c .before .before .before .before .before .before .before
@@ -29,7 +29,7 @@ lent c = c .before .before .before .before .before .before .before
 abbrev ended : tie.After-load-line-arg7 Inv-loop μ-loop → tie.After-line-end Inv-loop μ-loop
 ended c = c .before .before .before .before .before .before .before
 
-abbrev entered : tie.After-number-of Inv-loop μ-loop → tie.After-load-line Inv-loop μ-loop
+abbrev entered : tie.After-is-done Inv-loop μ-loop → tie.After-load-line Inv-loop μ-loop
 entered c = c .before .before .before .before .before .before .before .before .before .before .before .before .before .before
 
 -- the line is a part of the text
@@ -62,8 +62,8 @@ load-line-requires c κs =
     let pre = lent (turn line) .pre in
     (still-sized (loading .long) (pre .0), (rw (loading .long .tables .keys) (pre .1 .0), line-short loading (line .before .loop-test .taken) (line .line-end .ensures) (pre .1 .1)))
 
-number-of-requires : tie.Need-number-of-requires Inv-loop μ-loop
-number-of-requires c κs = search needs
+is-done-requires : tie.Need-is-done-requires Inv-loop μ-loop
+is-done-requires c κs = search needs
 
 same-length : tie.Need-same-length Inv-loop μ-loop
 same-length c = search needs
@@ -90,7 +90,7 @@ returns : tie.Need-returns Inv-loop μ-loop
 returns c =
     let answer = entered (c .before) in
     let line = ended (answer .before .before) in
-    stops (turn line .loop .inv) (line .before .loop-test .taken) (line .line-end .ensures) (answer .load-line .ensures) (c .before .number-of .ensures) (c .if1 .taken)
+    stops (turn line .loop .inv) (line .before .loop-test .taken) (line .line-end .ensures) (answer .load-line .ensures) (c .before .is-done .ensures) (c .if1 .taken)
 
 add-at : tie.Need-add-at Inv-loop μ-loop
 add-at c =
@@ -104,7 +104,7 @@ loop-again : tie.Need-loop-again Inv-loop μ-loop
 loop-again c =
     let answer = entered (c .before) in
     let line = ended (answer .before .before) in
-    goes-on (turn line .loop .inv) (line .before .loop-test .taken) (line .line-end .ensures) (answer .load-line .ensures) (c .before .number-of .ensures) (c .if1 .left)
+    goes-on (turn line .loop .inv) (line .before .loop-test .taken) (line .line-end .ensures) (answer .load-line .ensures) (c .before .is-done .ensures) (c .if1 .left)
     (kept-long _ _ (answer .load-line .kept))
 
 same-length-8 : tie.Need-same-length-8 Inv-loop μ-loop
@@ -144,7 +144,7 @@ load-lines-spec =
     part-load-line-start
     part-load-line-end
     load-line-requires
-    number-of-requires
+    is-done-requires
     same-length
     same-length-2
     same-length-3

@@ -16,7 +16,7 @@ use Rattle.entry.proofs.Entering.{head-damaged, refused, replaced-by, i
 use Rattle.entry.proofs.load_entry.Statement.{statement}
 use Rattle.entry.proofs.load_entry.Tie as tie
 
--- ---- the places of the code: the book is lent, its head passes the test, the decision is taken, the word is inserted, its record is set
+-- ---- the places of the code: the book is lent, its head passes the test, the decision is taken, a new word has its record, it is inserted, its record is set
 
 abbrev lent : tie.After-shared-slice-known → tie.Start
 lent c = c .before .before .before .before .before .before
@@ -30,16 +30,19 @@ book c = lent (c .before .before)
 abbrev replaces : tie.After-set-record-arg2 → tie.After-decision2
 replaces c = c .before .before .before
 
+abbrev numbered : tie.After-struct-known → tie.After-next-record
+numbered c = c .before .before .before .before .before .before
+
 abbrev inserts : tie.After-struct-known → tie.After-decision3
-inserts c = c .before .before .before .before .before .before .before
+inserts c = numbered c .before .before
 
 abbrev inserted : tie.After-set-record-arg4 → tie.After-insert
 inserted c = c .before .before .before .before .before .before .before .before .before .before
 
 abbrev chosen : tie.After-set-record-arg4 → tie.After-decision3
-chosen c = inserts (inserted c .before .before)
+chosen c = inserts (inserted c .before)
 
-abbrev stored : tie.After-struct-known3 → tie.After-set-record2
+abbrev stored : tie.After-struct-known2 → tie.After-set-record2
 stored c = c .before .before .before .before .before
 
 -- there are as many logarithms as frequencies, and not many
@@ -103,35 +106,38 @@ replaced-requires c κs = search needs
 enum-known-decision-3 : tie.Need-enum-known-decision-3
 enum-known-decision-3 c = search needs
 
+next-record-requires : tie.Need-next-record-requires
+next-record-requires c κs = search needs
+
 cast-insert : tie.Need-cast-insert
 cast-insert c = omega (arith, within (inserting (inserts c)))
 
 cast-insert-2 : tie.Need-cast-insert-2
 cast-insert-2 c =
-    let passed = inserting (inserts (c .before)) in
-    omega (arith, within passed, few-records (book passed))
+    let passed = inserting (inserts c) in
+    omega (arith, numbered c .next-record .ensures, within passed, few-records (book passed))
 
 insert-requires : tie.Need-insert-requires
 insert-requires c κs =
-    let passed = inserting (inserts (c .before)) in
+    let passed = inserting (inserts c) in
     let pre = book passed .pre in
     (insert-sizes _ _ _ _ _ _ _ _ (pre .0) (pre .1 .0), (pre .1 .1, omega (arith, within passed, pre .1)))
 
 set-record-requires-2 : tie.Need-set-record-requires-2
-set-record-requires-2 c κs = omega (arith, room (chosen c), few-records (book (inserting (chosen c))))
-
-add-t61 : tie.Need-add-t61
-add-t61 c =
-    let decision = chosen (stored c .before) in
-    omega (arith, room decision, few-records (book (inserting decision)))
+set-record-requires-2 c κs = omega (arith, numbered (inserted c .before) .next-record .ensures, room (chosen c), few-records (book (inserting (chosen c))))
 
 add-t62 : tie.Need-add-t62
 add-t62 c =
+    let decision = chosen (stored c .before) in
+    omega (arith, room decision, few-records (book (inserting decision)))
+
+add-t63 : tie.Need-add-t63
+add-t63 c =
     let decision = chosen (stored (c .before) .before) in
     omega (arith, room decision, slots-most _ _ _ _ _ _ _ (book (inserting decision) .pre .0))
 
-add-t63 : tie.Need-add-t63
-add-t63 c = omega (arith, room (chosen (stored (c .before .before) .before)))
+add-t64 : tie.Need-add-t64
+add-t64 c = omega (arith, room (chosen (stored (c .before .before) .before)))
 
 same-length : tie.Need-same-length
 same-length c = search needs
@@ -217,7 +223,7 @@ returns-4 c =
     let decided = decision .before .before in
     let passed = inserting decision in
     inserted-by _ _ _ _ _ _ (book passed .pre .1 .1) (passed .before .is-head-damaged .ensures) (passed .if1 .left) (decided .decide .ensures) (decision .decision3 .given .1)
-    _ (toZ-ofZ (cast-insert-2 (walked .before))) _ (walked .insert .ensures) _ (written .set-record2 .ensures .0) _ (written .set-record2 .ensures .1)
+    _ (numbered (walked .before) .next-record .ensures) _ (toZ-ofZ (cast-insert-2 (walked .before))) _ (walked .insert .ensures) _ (written .set-record2 .ensures .0) _ (written .set-record2 .ensures .1)
 
 pub load-entry-spec : {M : Type 1} → statement M
 load-entry-spec =
@@ -231,13 +237,14 @@ load-entry-spec =
     set-record-requires
     replaced-requires
     enum-known-decision-3
+    next-record-requires
     cast-insert
     cast-insert-2
     insert-requires
     set-record-requires-2
-    add-t61
     add-t62
     add-t63
+    add-t64
     same-length
     same-length-2
     same-length-3

@@ -1,8 +1,9 @@
--- `lookup::lookup` meets its contract: each `return` is the case of `lookupOf` that the tests before it say. Assumes nothing.
+-- `lookup::lookup` meets its contract: each `return` is the case of `lookupOf` that the tests before it say, and so in numbers. Assumes nothing.
 use native.Mathlib.Omega.{arith}
 use borrow.Author.Needs.{needs}
 use Rattle.book.proofs.Sizes.{sizes}
 use Rattle.book.proofs.Areas.{slot-count, slots-most, equally-long}
+use Rattle.book.proofs.Numbers.{found-in-numbers}
 use Rattle.lookup.proofs.Tests.{passed, well-formed}
 use Rattle.lookup.proofs.Lookups.{refused, empty, head-damaged, looked-up, record-inside}
 use Rattle.lookup.proofs.lookup.Statement.{statement}
@@ -18,7 +19,7 @@ returns : tie.Need-returns
 returns c =
     let not-passed = c .before in
     let tested = not-passed .before .before in
-    refused _ _ (tested .test-word .ensures) (not-passed .outcome .given .1)
+    found-in-numbers (refused _ _ (tested .test-word .ensures) (not-passed .outcome .given .1))
 
 enum-told : tie.Need-enum-told
 enum-told c = search needs
@@ -26,7 +27,7 @@ enum-told c = search needs
 returns-2 : tie.Need-returns-2
 returns-2 c =
     let tested = c .before .before in
-    empty _ _ (tested .test-word .ensures) (c .enum-told .given .1)
+    found-in-numbers (empty _ _ (tested .test-word .ensures) (c .enum-told .given .1))
 
 enum-told-2 : tie.Need-enum-told-2
 enum-told-2 c = search needs
@@ -42,7 +43,7 @@ returns-3 c =
     let head = c .before in
     let told = head .before in
     let tested = told .before .before in
-    head-damaged _ _ (tested .test-word .ensures) (told .enum-told2 .given .1) (head .is-head-damaged .ensures) (c .if1 .taken)
+    found-in-numbers (head-damaged _ _ (tested .test-word .ensures) (told .enum-told2 .given .1) (head .is-head-damaged .ensures) (c .if1 .taken))
 
 shift-of-requires : tie.Need-shift-of-requires
 shift-of-requires c κs =
@@ -95,7 +96,7 @@ returns-4 c =
     let head = sound .before in
     let told = head .before in
     let tested = told .before .before in
-    looked-up _ _ (tested .test-word .ensures) (told .enum-told2 .given .1) (head .is-head-damaged .ensures) (sound .if1 .left) (got .get .ensures) (held .n .given .1)
+    found-in-numbers (looked-up _ _ (tested .test-word .ensures) (told .enum-told2 .given .1) (head .is-head-damaged .ensures) (sound .if1 .left) (got .get .ensures) (held .n .given .1))
 
 returns-5 : tie.Need-returns-5
 returns-5 c =
@@ -104,7 +105,7 @@ returns-5 c =
     let head = sound .before in
     let told = head .before in
     let tested = told .before .before in
-    looked-up _ _ (tested .test-word .ensures) (told .enum-told2 .given .1) (head .is-head-damaged .ensures) (sound .if1 .left) (got .get .ensures) (c .enum-told3 .given .1)
+    found-in-numbers (looked-up _ _ (tested .test-word .ensures) (told .enum-told2 .given .1) (head .is-head-damaged .ensures) (sound .if1 .left) (got .get .ensures) (c .enum-told3 .given .1))
 
 returns-6 : tie.Need-returns-6
 returns-6 c =
@@ -113,7 +114,7 @@ returns-6 c =
     let head = sound .before in
     let told = head .before in
     let tested = told .before .before in
-    looked-up _ _ (tested .test-word .ensures) (told .enum-told2 .given .1) (head .is-head-damaged .ensures) (sound .if1 .left) (got .get .ensures) (c .enum-told4 .given .1)
+    found-in-numbers (looked-up _ _ (tested .test-word .ensures) (told .enum-told2 .given .1) (head .is-head-damaged .ensures) (sound .if1 .left) (got .get .ensures) (c .enum-told4 .given .1))
 
 pub lookup-spec : {M : Type 1} → statement M
 lookup-spec =

@@ -1,7 +1,8 @@
--- `prepare::prepare` meets its contract: the areas are as they were, or each is filled by its call. Assumes nothing.
+-- `prepare::prepare` meets its contract: the areas are as they were, or each is filled by its call; and so in numbers. Assumes nothing.
 use borrow.Author.Tests.{not-true, not-false}
 use lib.Ieee.{ofBits, ofInt}
 use Rattle.score.specs.Scores.{floatOf}
+use Rattle.book.proofs.Numbers.{prepared-in-numbers}
 use Rattle.prepare.proofs.Prepared.{refused, ready}
 use borrow.Author.Needs.{needs}
 use Rattle.prepare.proofs.prepare.Statement.{statement}
@@ -11,7 +12,7 @@ is-allowed-requires : tie.Need-is-allowed-requires
 is-allowed-requires c κs = search needs
 
 returns : tie.Need-returns
-returns c = refused _ _ _ _ _ _ _ _ (c .before .is-allowed .ensures) (not-true _ (c .if1 .taken))
+returns c = prepared-in-numbers (refused _ _ _ _ _ _ _ _ (c .before .is-allowed .ensures) (not-true _ (c .if1 .taken)))
 
 fill-u32-requires : tie.Need-fill-u32-requires
 fill-u32-requires c κs = search needs
@@ -58,8 +59,18 @@ same-length-7 c = search needs
 returns-2 : tie.Need-returns-2
 unfolding ofBits ofInt floatOf
 returns-2 c =
-    ready _ _ _ _ _ _ _ _ (c .before .before .before .before .before .before .before .before .before .before .before .before .before .before .before .before .before .before .before .before .before .before .before .before .before .before .before .is-allowed .ensures) _ _ _ _ _ _ _ (not-false _ (c .before .before .before .before .before .before .before .before .before .before .before .before .before .before .before .before .before .before .before .before .before .before .before .before .before .before .if1 .left))
-    (c .before .before .before .before .before .before .before .before .before .before .before .before .before .before .before .before .before .before .before .before .before .before .before .before .fill-u32 .ensures) (c .before .before .before .before .before .before .before .before .before .before .before .before .before .before .before .before .before .before .before .before .fill-no-word .ensures) (c .before .before .before .before .before .before .before .before .before .before .before .before .before .before .before .before .before .fill-u64 .ensures) (c .before .before .before .before .before .before .before .before .before .before .before .before .before .fill-u322 .ensures) (c .before .before .before .before .before .before .before .before .before .fill-no-word2 .ensures) (c .before .before .before .before .before .before .fill-u323 .ensures) (c .before .before .fill-f64 .ensures)
+    let logarithms = c .before .before in
+    let frequencies = logarithms .before .before .before .before in
+    let words = frequencies .before .before .before in
+    let children = words .before .before .before .before in
+    let keys = children .before .before .before .before in
+    let root-words = keys .before .before .before in
+    let root-children = root-words .before .before .before .before in
+    let sized = root-children .before .before in
+    prepared-in-numbers
+    (ready _ _ _ _ _ _ _ _ (sized .before .is-allowed .ensures) _ _ _ _ _ _ _ (not-false _ (sized .if1 .left))
+    (root-children .fill-u32 .ensures) (root-words .fill-no-word .ensures) (keys .fill-u64 .ensures) (children .fill-u322 .ensures) (words .fill-no-word2 .ensures) (frequencies .fill-u323 .ensures)
+    (logarithms .fill-f64 .ensures))
 
 pub prepare-spec : {M : Type 1} → statement M
 prepare-spec =

@@ -6,7 +6,8 @@ use native.Mathlib.Omega.{arith}
 use lib.ListN.{take}
 use lib.Seq.{length-take-le}
 use borrow.Author.Needs.{needs}
-use Rattle.tokens.proofs.Turns.{Turn, Putting, begins, refused, one-more, ends}
+use borrow.Author.Tests.{not-true, not-false}
+use Rattle.tokens.proofs.Turns.{Turn, Putting, begins, refused, one-more, ends, emitted-in}
 use Rattle.tokens.proofs.Unmatched.{singlyFrom, all-singly, singly-end, cr-lf, no-lf, cr-at-end, no-cr}
 use Rattle.tokens.proofs.cut_unmatched.Statement.{statement}
 use Rattle.tokens.proofs.cut_unmatched.Tie as tie
@@ -62,8 +63,8 @@ emit-span-requires c κs =
     let t = turn (c .before) in
     (omega (arith, t .forward), omega (arith, t .inside), omega (arith, t .inside))
 
-number-of-requires : tie.Need-number-of-requires Inv-loop μ-loop
-number-of-requires c κs = search needs
+is-done-requires : tie.Need-is-done-requires Inv-loop μ-loop
+is-done-requires c κs = search needs
 
 same-length : tie.Need-same-length Inv-loop μ-loop
 same-length c =
@@ -72,14 +73,15 @@ same-length c =
     put .emit-span .kept .1 .1 .1 .1 .0 ∙ at .loop .inv .long
 
 returns : tie.Need-returns Inv-loop μ-loop
-returns c bytes known =
+returns c place known =
     let put = c .before .before .before .before in
     let joined = put .before .before in
     let at = joined .before .before .before in
     let args = start at .args in
-    refused _ _ _ _ _ _ _ (at .loop .inv) (turn joined) (length-take-le (args .n) (args .chars .now) (start at .pre .0)) (put .emit-span .result) _ (put .emit-span .ensures)
-    (λ e. c .if4 .taken (c .before .number-of .ensures ∙ e))
-    _ (all-singly _) bytes known
+    refused _ _ _ _ _ _ _ (at .loop .inv) (turn joined) (put .emit-span .result) _
+    (emitted-in _ _ _ _ _ _ _ _ (put .emit-span .result) _ (length-take-le (args .n) (args .chars .now) (start at .pre .0)) (turn joined .inside) (put .emit-span .ensures))
+    (sym (c .before .is-done .ensures) ∙ not-true _ (c .if4 .taken))
+    _ (all-singly _) place known
 
 loop-less : tie.Need-loop-less Inv-loop μ-loop
 loop-less c = omega (arith, turn (c .before .before .before .before .before .before))
@@ -90,18 +92,19 @@ loop-again c =
     let joined = put .before .before in
     let at = joined .before .before .before in
     let args = start at .args in
-    one-more _ _ _ _ _ _ _ (at .loop .inv) (turn joined) (length-take-le (args .n) (args .chars .now) (start at .pre .0)) (put .emit-span .result) _ (put .emit-span .ensures)
-    (sym (c .before .number-of .ensures) ∙ c .if4 .left)
+    one-more _ _ _ _ _ _ _ (at .loop .inv) (turn joined) (put .emit-span .result) _
+    (emitted-in _ _ _ _ _ _ _ _ (put .emit-span .result) _ (length-take-le (args .n) (args .chars .now) (start at .pre .0)) (turn joined .inside) (put .emit-span .ensures))
+    (sym (c .before .is-done .ensures) ∙ not-false _ (c .if4 .left))
     (put .emit-span .kept .1 .1 .1 .1 .0)
 
 same-length-2 : tie.Need-same-length-2 Inv-loop μ-loop
 same-length-2 c = c .before .loop .inv .long
 
 returns-2 : tie.Need-returns-2 Inv-loop μ-loop
-returns-2 c bytes known =
+returns-2 c place known =
     let at = c .before in
     let args = start at .args in
-    ends _ _ _ _ _ _ _ (at .loop .inv) (singly-end (args .chars .now) (args .n) (start at .pre .0) (at .loop .x) (c .loop-test .left)) _ (all-singly _) bytes known
+    ends _ _ _ _ _ _ _ (at .loop .inv) (singly-end (args .chars .now) (args .n) (start at .pre .0) (at .loop .x) (c .loop-test .left)) _ (all-singly _) place known
 
 pub cut-unmatched-spec : {M : Type 1} → statement M
 cut-unmatched-spec =
@@ -117,7 +120,7 @@ cut-unmatched-spec =
     shared-slice-read-if3
     add-y-2
     emit-span-requires
-    number-of-requires
+    is-done-requires
     same-length
     returns
     loop-less

@@ -39,16 +39,16 @@ same-length : tie.Need-same-length
 same-length c = search needs
 
 returns : tie.Need-returns
-returns c bytes chars known inside =
+returns c place chars known inside =
     let start = c .before .before .before .before .before .before .before .before .before in
     let args = start .args in
-    emitted (args .base) bytes (args .x) (args .y) (args .count) chars (args .offsets .now) (args .tokens .now) _
+    emitted place (args .base) (args .x) (args .y) (args .count) chars (args .offsets .now) (args .tokens .now) _
     (omega (arith, c .before .before .before .before .before .before .if1 .taken)) (c .before .before .put-token .ensures) (start .pre .0) known inside
 
 returns-2 : tie.Need-returns-2
-returns-2 c bytes chars known inside =
+returns-2 c place chars known inside =
     let args = c .before .before .before .args in
-    no-place (args .base) bytes (args .x) (args .y) (args .count) chars (args .offsets .now) (args .tokens .now) (omega (arith, c .if1 .left))
+    no-place place (args .base) (args .x) (args .y) (args .count) chars (args .offsets .now) (args .tokens .now) (omega (arith, c .if1 .left))
 
 pub emit-span-spec : {M : Type 1} → statement M
 emit-span-spec =

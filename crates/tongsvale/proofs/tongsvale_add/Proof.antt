@@ -1,7 +1,5 @@
 -- `tongsvale::tongsvale_add` meets its contract: a head of another length is refused, else the call's answer in numbers. Assumes nothing.
 use Rattle.tongsvale.proofs.Exports.{add-refused, added-by}
--- `tongsvale::tongsvale_add` meets its contract: a head of another length is refused, else the call's answer in numbers. Assumes nothing.
--- `tongsvale::tongsvale_add` meets its contract: a head of another length is refused, else the call's answer in numbers. Assumes nothing.
 use borrow.Author.Needs.{needs}
 use Rattle.tongsvale.proofs.tongsvale_add.Statement.{statement}
 use Rattle.tongsvale.proofs.tongsvale_add.Tie as tie
@@ -52,7 +50,7 @@ returns-2 : tie.Need-returns-2
 returns-2 c =
     let called = c .before .before .before .before .before .before .before .before .before .before .before .before .before .before .before .before .before .before in
     let read = called .before .before .before .before .before .before .before .before in
-    added-by _ _ _ _ (read .before .before .if1 .left) _ (read .read-head .ensures) _ _ _ (called .add-word .ensures) _ (c .number-of2 .ensures) _ (c .before .before .before .write-head .ensures)
+    added-by _ _ _ _ (read .before .before .if1 .left) _ (read .read-head .ensures) _ _ _ (called .add-word .ensures .0) _ (c .number-of2 .ensures) _ (c .before .before .before .write-head .ensures)
 
 pub tongsvale-add-spec : {M : Type 1} → statement M
 tongsvale-add-spec =

@@ -1,30 +1,20 @@
 -- `tongsvale::tongsvale_cut` meets its contract: a head of another length is refused with every area as it was, else the call's answer in numbers. Assumes nothing.
 use mathlib.Core.Path.{refl}
 use Rattle.trie.specs.Trie.{trieOf}
-use Rattle.cut.specs.Areas.{workOf, roomOf}
+use Rattle.tokenize.specs.Areas.{workOf, roomOf}
 use Rattle.tongsvale.proofs.Exports.{cut-refused, cut-by, not-begun}
 use borrow.Author.Needs.{needs}
 use Rattle.tongsvale.proofs.tongsvale_cut.Statement.{statement}
 use Rattle.tongsvale.proofs.tongsvale_cut.Tie as tie
 
-number-of-requires : tie.Need-number-of-requires
-number-of-requires c κs = search needs
+refused-requires : tie.Need-refused-requires
+refused-requires c κs = search needs
 
 returns : tie.Need-returns
 returns c =
     let args = c .before .before .before .before .before .before .before .before .before .before .before .before .before .before .before .before .before .before .args in (
-      cut-refused _ _ _ _ (c .before .if1 .taken) _ (c .number-of .ensures) (workOf (args .chars .now) (args .offsets .now) (args .starts .now) (args .scores .now) (args .ends .now) (args .records .now))
-          (roomOf (args .edge-ends .now) (args .edge-records .now)) _ _,
-      λ none. record {
-        same-chars = refl;
-        same-offsets = refl;
-        same-starts = refl;
-        same-scores = refl;
-        same-ends = refl;
-        same-records = refl;
-        same-edge-ends = refl;
-        same-edge-records = refl;
-      },
+      cut-refused _ _ _ _ _ _ (c .refused .ensures .0) (c .refused .ensures .1) (workOf (args .chars .now) (args .offsets .now) (args .starts .now) (args .scores .now) (args .ends .now) (args .records .now)) _ _ (c .before .if1 .taken) (roomOf (args .edge-ends .now) (args .edge-records .now)),
+      λ none. (refl, refl, refl, refl, refl, refl, refl, refl),
     )
 
 read-head-requires : tie.Need-read-head-requires
@@ -33,8 +23,8 @@ read-head-requires c κs = search needs
 cut-requires : tie.Need-cut-requires
 cut-requires c κs = search needs
 
-number-of-requires-2 : tie.Need-number-of-requires-2
-number-of-requires-2 c κs = search needs
+returned-requires : tie.Need-returned-requires
+returned-requires c κs = search needs
 
 same-length : tie.Need-same-length
 same-length c = search needs
@@ -69,22 +59,22 @@ returns-2 c =
     let read = called .before .before .before .before .before .before .before .before .before .before in
     let four = read .before .if1 .left in
     let args = read .before .before .before .before .before .before .before .before .before .before .before .before .before .before .before .before .before .before .args in (
-      cut-by _ _ _ _ four _ (read .read-head .ensures) _ _ _ _ _ (called .cut .ensures .0) _ (c .number-of2 .ensures),
+      cut-by _ _ _ _ four _ (read .read-head .ensures) _ _ _ _ _ (called .cut .ensures .0) _ _ (c .returned .ensures .0) (c .returned .ensures .1),
       λ none.
           called .cut .ensures .1
-          (not-begun (args .head .now) _ (trieOf (args .root-children .now) (args .root-words .now) (args .keys .now) (args .children .now) (args .words .now)) (args .frequencies .now) (args .logarithms .now)
-          (workOf (args .chars .now) (args .offsets .now) (args .starts .now) (args .scores .now) (args .ends .now) (args .records .now)) (args .tokens .now) (args .sentence .now) four (read .read-head .ensures) none),
+          (not-begun (args .head .now) (trieOf (args .root-children .now) (args .root-words .now) (args .keys .now) (args .children .now) (args .words .now)) (args .frequencies .now) (args .logarithms .now) four _ (read .read-head .ensures)
+          (workOf (args .chars .now) (args .offsets .now) (args .starts .now) (args .scores .now) (args .ends .now) (args .records .now)) (args .tokens .now) (args .sentence .now) none),
     )
 
 pub tongsvale-cut-spec : {M : Type 1} → statement M
 tongsvale-cut-spec =
     tie.close
     (tie.spec
-    number-of-requires
+    refused-requires
     returns
     read-head-requires
     cut-requires
-    number-of-requires-2
+    returned-requires
     same-length
     same-length-2
     same-length-3

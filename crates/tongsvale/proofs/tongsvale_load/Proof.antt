@@ -1,12 +1,5 @@
 -- `tongsvale::tongsvale_load` meets its contract: a head of another length is refused, else the call's answer in numbers. Assumes nothing.
-use mathlib.Core.Path.{sym, _∙_}
 use Rattle.tongsvale.proofs.Exports.{load-refused, loaded-by}
--- `tongsvale::tongsvale_load` meets its contract: a head of another length is refused, else the call's answer in numbers. Assumes nothing.
-use mathlib.Core.Path.{sym, _∙_}
--- `tongsvale::tongsvale_load` meets its contract: a head of another length is refused, else the call's answer in numbers. Assumes nothing.
-use mathlib.Core.Path.{sym, _∙_}
--- `tongsvale::tongsvale_load` meets its contract: a head of another length is refused, else the call's answer in numbers. Assumes nothing.
-use mathlib.Core.Path.{sym, _∙_}
 use borrow.Author.Needs.{needs}
 use Rattle.tongsvale.proofs.tongsvale_load.Statement.{statement}
 use Rattle.tongsvale.proofs.tongsvale_load.Tie as tie
@@ -57,7 +50,7 @@ returns-2 : tie.Need-returns-2
 returns-2 c =
     let called = c .before .before .before .before .before .before .before .before .before .before .before .before .before .before .before .before .before .before in
     let read = called .before .before .before .before .before .before .before .before in
-    loaded-by _ _ _ _ (read .before .before .if1 .left) _ (read .read-head .ensures) _ _ (called .load-dict .ensures) _ (c .number-of2 .ensures) _ (c .before .before .before .write-head .ensures)
+    loaded-by _ _ _ _ (read .before .before .if1 .left) _ (read .read-head .ensures) _ _ (called .load-dict .ensures .0) _ (c .number-of2 .ensures) _ (c .before .before .before .write-head .ensures)
 
 pub tongsvale-load-spec : {M : Type 1} → statement M
 tongsvale-load-spec =

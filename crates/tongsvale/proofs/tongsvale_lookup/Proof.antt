@@ -1,12 +1,5 @@
 -- `tongsvale::tongsvale_lookup` meets its contract: a head of another length is refused, else the call's answer in numbers. Assumes nothing.
-use mathlib.Core.Path.{_≡_, ap, sym, _∙_}
-use Rattle.book.specs.declared.Found.{Found}
-use Rattle.tongsvale.specs.Exports.{foundAs, foundNumbers}
 use Rattle.tongsvale.proofs.Exports.{lookup-refused, found-by}
--- `tongsvale::tongsvale_lookup` meets its contract: a head of another length is refused, else the call's answer in numbers. Assumes nothing.
-use mathlib.Core.Path.{_≡_, ap, sym, _∙_}
--- `tongsvale::tongsvale_lookup` meets its contract: a head of another length is refused, else the call's answer in numbers. Assumes nothing.
-use mathlib.Core.Path.{_≡_, ap, sym, _∙_}
 use borrow.Author.Needs.{needs}
 use Rattle.tongsvale.proofs.tongsvale_lookup.Statement.{statement}
 use Rattle.tongsvale.proofs.tongsvale_lookup.Tie as tie
@@ -38,17 +31,18 @@ number-of-requires-2 c κs = search needs
 returns-2 : tie.Need-returns-2
 returns-2 c =
     let called = c .before .before .before in
-    ap foundAs (sym (c .before .frequency .given .1)) ∙ found-by _ _ _ _ (called .before .before .if1 .left) _ (called .before .read-head .ensures) _ _ (called .lookup .ensures)
+    found-by _ _ _ _ (called .before .before .if1 .left) _ (called .before .read-head .ensures) _ _ (called .lookup .ensures .1) (c .before .frequency .given .1)
 
 returns-3 : tie.Need-returns-3
 returns-3 c =
     let called = c .before .before in
-    ap foundAs (sym (c .enum-told .given .1)) ∙ found-by _ _ _ _ (called .before .before .if1 .left) _ (called .before .read-head .ensures) _ _ (called .lookup .ensures)
+    found-by _ _ _ _ (called .before .before .if1 .left) _ (called .before .read-head .ensures) _ _ (called .lookup .ensures .1) (c .enum-told .given .1)
 
 returns-4 : tie.Need-returns-4
 returns-4 c =
     let called = c .before .before .before .before in
-    rw (c .number-of2 .ensures) (ap foundAs (sym (c .before .before .outcome .given .1)) ∙ found-by _ _ _ _ (called .before .before .if1 .left) _ (called .before .read-head .ensures) _ _ (called .lookup .ensures))
+    rw (c .number-of2 .ensures)
+    (found-by _ _ _ _ (called .before .before .if1 .left) _ (called .before .read-head .ensures) _ _ (called .lookup .ensures .1) (c .before .before .outcome .given .1))
 
 pub tongsvale-lookup-spec : {M : Type 1} → statement M
 tongsvale-lookup-spec =

@@ -1,0 +1,3 @@
+-- The definitions that the contracts of `block` cite.
+pub mod Routes
+pub mod Plans

@@ -1,2 +1,0 @@
--- The definitions that the contracts of `cut` cite.
-pub mod Areas

@@ -1,0 +1,2 @@
+-- The definitions that the contracts of `search` cite.
+pub mod Brought

@@ -1,0 +1,95 @@
+-- `tokenize` whole: what the tests before it say, and the blocks of the sentence after them.
+-- Assumes nothing.
+use mathlib.Core.Path.{_≡_, refl, sym, ap, _∙_}
+use mathlib.Core.Bool.{true, false}
+use mathlib.Core.List.{List}
+use mathlib.Core.Option.{IsSome}
+use Prim.Native.Nat.{ℕ, _<_}
+use native.Mathlib.Omega.{arith}
+use lib.Ieee.{Float}
+use lib.ListN.{length}
+use Rattle.utf8.specs.Text.{charsOf}
+use Rattle.classes.specs.Blocks.{cutClass}
+use Rattle.book.specs.declared.Outcome.{Outcome}
+use Rattle.book.specs.declared.Outcome.the-variants.{Done}
+use Rattle.book.specs.Returns.{Book, isDone}
+use Rattle.cuts.specs.declared.TokenizeMode.{TokenizeMode}
+use Rattle.cuts.specs.declared.TokenizeMode.the-variants.{Default, Search}
+use Rattle.cuts.specs.Blocks.{blocksOf}
+use Rattle.cuts.specs.Edges.{vocabularyOf}
+use Rattle.cuts.specs.Slices.{shorter}
+use Rattle.cuts.specs.Tokens.{written}
+use Rattle.cuts.specs.Cuts.{CutAnswer, answer, cutBlocks, start, testedBook, cutWith, begins, cutOf, cutForSearchOf, tokenizeOf}
+use Rattle.sentence.proofs.Beginning.{Begun, refused, begun, has-begun, shorter-first, shorter-second}
+use Rattle.splitter.specs.Runs.{textFrom}
+use Rattle.splitter.proofs.Sentences.{text-start}
+use Rattle.block.specs.Routes.{blockBy}
+use Rattle.block.specs.Plans.{WorkFits}
+use Rattle.tokenize.specs.Areas.{workOf}
+
+-- by either mode, block by block after the tests
+by-blocks : (mode : TokenizeMode) (b : Book) (work room : ℕ) (tokens sentence : List ℕ)
+    → tokenizeOf mode b work room tokens sentence
+    ≡ cutWith (testedBook b) work tokens (λ cs. cutBlocks (blockBy mode (vocabularyOf b) room) start (blocksOf cutClass cs)) sentence
+unfolding tokenizeOf cutOf cutForSearchOf blockBy
+by-blocks Default b work room tokens sentence = refl
+by-blocks Search b work room tokens sentence = refl
+
+-- the tests are given the work area's length as it was found
+module _ (mode : TokenizeMode) (b : Book) (work found room : ℕ) (tokens sentence : List ℕ) (o : Outcome) (tests-found : answer o (written 0 tokens) ≡ cutWith (testedBook b) found tokens (λ cs. answer Done) sentence) (length-found : found ≡ work) where
+  tests : answer o (written 0 tokens) ≡ cutWith (testedBook b) work tokens (λ cs. answer Done) sentence
+  tests = rw (← length-found) tests-found
+
+  pub cut-begun : isDone o ≡ true → Begun (testedBook b) work tokens sentence
+  cut-begun done = begun (testedBook b) work tokens sentence o tests done
+
+  pub not-begun : isDone o ≡ true → begins (testedBook b) work tokens sentence ≡ false → ⊥
+  not-begun done none-begun = has-begun (testedBook b) work tokens sentence o tests done none-begun
+
+  pub refused-cut : isDone o ≡ false → answer o (written 0 tokens) ≡ tokenizeOf mode b work room tokens sentence
+  refused-cut other =
+      refused (testedBook b) work tokens sentence o tests other (λ cs. cutBlocks (blockBy mode (vocabularyOf b) room) start (blocksOf cutClass cs))
+      ∙ sym (by-blocks mode b work room tokens sentence)
+
+  pub whole-cut : isDone o ≡ true → (room-found : ℕ) → room-found ≡ room
+      → (a : CutAnswer) → a ≡ cutBlocks (blockBy mode (vocabularyOf b) room-found) start (blocksOf cutClass (textFrom sentence 0)) (written 0 tokens) → a ≡ tokenizeOf mode b work room tokens sentence
+  whole-cut done room-found same-room a same =
+      let began = cut-begun done in
+      same
+      ∙ ap (λ (k : ℕ). cutBlocks (blockBy mode (vocabularyOf b) k) start (blocksOf cutClass (textFrom sentence 0)) (written 0 tokens)) same-room
+      ∙ ap (λ (cs : List ℕ). cutBlocks (blockBy mode (vocabularyOf b) room) start (blocksOf cutClass cs) (written 0 tokens)) (text-start sentence (began .chars) (began .read))
+      ∙ sym (began .cut (λ cs. cutBlocks (blockBy mode (vocabularyOf b) room) start (blocksOf cutClass cs)))
+      ∙ sym (by-blocks mode b work room tokens sentence)
+
+-- ---- the work area
+
+module _ (chars offsets starts : List ℕ) (scores : List Float) (ends records : List ℕ) where
+  -- its length, found slice by slice
+  pub work-found : (a b c d e : ℕ) → a ≡ shorter (length chars) (length offsets) → b ≡ shorter a (length starts) → c ≡ shorter b (length scores) → d ≡ shorter c (length ends) → e ≡ shorter d (length records)
+      → e ≡ workOf chars offsets starts scores ends records
+  work-found a b c d e ea eb ec ed ee = rw (ee, ed, ec, eb, ea) refl
+
+  pub work-fits : (n : ℕ) → n < workOf chars offsets starts scores ends records → WorkFits n chars offsets starts scores ends records
+  work-fits n h =
+      let a = shorter (length chars) (length offsets) in
+      let b = shorter a (length starts) in
+      let c = shorter b (length scores) in
+      let d = shorter c (length ends) in
+      let e1 = shorter-first d (length records) in
+      let e2 = shorter-second d (length records) in
+      let d1 = shorter-first c (length ends) in
+      let d2 = shorter-second c (length ends) in
+      let c1 = shorter-first b (length scores) in
+      let c2 = shorter-second b (length scores) in
+      let b1 = shorter-first a (length starts) in
+      let b2 = shorter-second a (length starts) in
+      let a1 = shorter-first (length chars) (length offsets) in
+      let a2 = shorter-second (length chars) (length offsets) in
+      record { in-chars = omega arith; in-offsets = omega arith; in-starts = omega arith; in-scores = omega arith; in-ends = omega arith; in-records = omega arith }
+
+-- the characters of a sentence that begins to be cut
+pub begun-chars : (b : Book) (work : ℕ) (tokens sentence : List ℕ) → Begun (testedBook b) work tokens sentence → length (textFrom sentence 0) < work
+begun-chars b work tokens sentence began = rw (text-start sentence (began .chars) (began .read)) (began .room)
+
+pub begun-well-formed : (b : Book) (work : ℕ) (tokens sentence : List ℕ) → Begun (testedBook b) work tokens sentence → IsSome (charsOf sentence)
+begun-well-formed b work tokens sentence began = rw (began .read) tt

@@ -1,0 +1,2 @@
+-- The definitions that the contracts of `tokenize` and of the calls over it cite.
+pub mod Areas

@@ -1,0 +1,87 @@
+-- `tongsvale::tongsvale_cut_for_search` meets its contract: a head of another length is refused with every area as it was, else the call's answer in numbers. Assumes nothing.
+use mathlib.Core.Path.{refl}
+use Rattle.trie.specs.Trie.{trieOf}
+use Rattle.tokenize.specs.Areas.{workOf, roomOf}
+use Rattle.tongsvale.proofs.Exports.{cut-for-search-refused, cut-for-search-by, not-begun}
+use borrow.Author.Needs.{needs}
+use Rattle.tongsvale.proofs.tongsvale_cut_for_search.Statement.{statement}
+use Rattle.tongsvale.proofs.tongsvale_cut_for_search.Tie as tie
+
+refused-requires : tie.Need-refused-requires
+refused-requires c κs = search needs
+
+returns : tie.Need-returns
+returns c =
+    let args = c .before .before .before .before .before .before .before .before .before .before .before .before .before .before .before .before .before .before .args in (
+      cut-for-search-refused _ _ _ _ _ _ (c .refused .ensures .0) (c .refused .ensures .1) (workOf (args .chars .now) (args .offsets .now) (args .starts .now) (args .scores .now) (args .ends .now) (args .records .now)) _ _ (c .before .if1 .taken) (roomOf (args .edge-ends .now) (args .edge-records .now)),
+      λ none. (refl, refl, refl, refl, refl, refl, refl, refl),
+    )
+
+read-head-requires : tie.Need-read-head-requires
+read-head-requires c κs = search needs
+
+cut-for-search-requires : tie.Need-cut-for-search-requires
+cut-for-search-requires c κs = search needs
+
+returned-requires : tie.Need-returned-requires
+returned-requires c κs = search needs
+
+same-length : tie.Need-same-length
+same-length c = search needs
+
+same-length-2 : tie.Need-same-length-2
+same-length-2 c = search needs
+
+same-length-3 : tie.Need-same-length-3
+same-length-3 c = search needs
+
+same-length-4 : tie.Need-same-length-4
+same-length-4 c = search needs
+
+same-length-5 : tie.Need-same-length-5
+same-length-5 c = search needs
+
+same-length-6 : tie.Need-same-length-6
+same-length-6 c = search needs
+
+same-length-7 : tie.Need-same-length-7
+same-length-7 c = search needs
+
+same-length-8 : tie.Need-same-length-8
+same-length-8 c = search needs
+
+same-length-9 : tie.Need-same-length-9
+same-length-9 c = search needs
+
+returns-2 : tie.Need-returns-2
+returns-2 c =
+    let called = c .before .before .before .before .before .before .before .before .before .before .before .before .before .before .before .before .before .before .before in
+    let read = called .before .before .before .before .before .before .before .before .before .before in
+    let four = read .before .if1 .left in
+    let args = read .before .before .before .before .before .before .before .before .before .before .before .before .before .before .before .before .before .before .args in (
+      cut-for-search-by _ _ _ _ four _ (read .read-head .ensures) _ _ _ _ _ (called .cut-for-search .ensures .0) _ _ (c .returned .ensures .0) (c .returned .ensures .1),
+      λ none.
+          called .cut-for-search .ensures .1
+          (not-begun (args .head .now) (trieOf (args .root-children .now) (args .root-words .now) (args .keys .now) (args .children .now) (args .words .now)) (args .frequencies .now) (args .logarithms .now) four _ (read .read-head .ensures)
+          (workOf (args .chars .now) (args .offsets .now) (args .starts .now) (args .scores .now) (args .ends .now) (args .records .now)) (args .tokens .now) (args .sentence .now) none),
+    )
+
+pub tongsvale-cut-for-search-spec : {M : Type 1} → statement M
+tongsvale-cut-for-search-spec =
+    tie.close
+    (tie.spec
+    refused-requires
+    returns
+    read-head-requires
+    cut-for-search-requires
+    returned-requires
+    same-length
+    same-length-2
+    same-length-3
+    same-length-4
+    same-length-5
+    same-length-6
+    same-length-7
+    same-length-8
+    same-length-9
+    returns-2)
