@@ -1,4 +1,5 @@
-/* Prepares a book, loads three words, cuts a sentence, for search too, and prints its words. tools/library compiles and runs it. */
+/* Prepares a book, loads three words, cuts a sentence, then for search too, and prints the words. tools/library compiles and
+ * runs it. */
 #include <stdio.h>
 #include <string.h>
 #include "tongsvale.h"
