@@ -49,14 +49,15 @@ fn wide(b: u8) -> u32
     b as u32
 }
 
-// The byte at a position where it is UTF8-tail, from 0x80 to 0xBF; 0 where none stands there.
+// The byte at a position where it is UTF8-tail, from 0x80 to 0xBF; 0 where none stands there. It is tested before it is made
+// wide: of a byte, the test is one comparison.
 fn tail_at(s: &[u8], at: usize) -> u32
     ensures { λ r. ⌜ TailAt (now (s .entry)) at r ⌝ }
 {
     if at < s.len() {
-        let b = wide(s[at]);
+        let b = s[at];
         if b / 0x40 == 2 {
-            return b;
+            return wide(b);
         }
     }
     0

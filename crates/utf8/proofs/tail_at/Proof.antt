@@ -4,20 +4,24 @@ use borrow.Author.Needs.{needs}
 use Rattle.utf8.proofs.tail_at.Statement.{statement}
 use Rattle.utf8.proofs.tail_at.Tie as tie
 
-shared-slice-read-wide : tie.Need-shared-slice-read-wide
-shared-slice-read-wide c = omega (arith, c .before .if1 .taken)
+shared-slice-read-b : tie.Need-shared-slice-read-b
+shared-slice-read-b c = omega (arith, c .before .if1 .taken)
 
 wide-requires : tie.Need-wide-requires
 wide-requires c κs = search needs
 
 returns : tie.Need-returns
-returns c = record { missing = λ zero within tail. omega (arith, c .if2 .taken); there = λ some-byte. (omega (arith, c .before .before .before .if1 .taken), c .before .wide .ensures .0, (omega (arith, c .if2 .taken), omega (arith, c .if2 .taken))) }
+returns c =
+    record {
+      missing = λ zero within tail. omega (arith, c .before .if2 .taken, c .wide .ensures .0);
+      there = λ some-byte. (omega (arith, c .before .before .before .if1 .taken), c .wide .ensures .0, (omega (arith, c .before .if2 .taken), omega (arith, c .before .if2 .taken)));
+    }
 
 returns-2 : tie.Need-returns-2
-returns-2 c = record { missing = λ zero within tail. omega (arith, c .if2 .left, c .before .wide .ensures .0); there = λ some-byte. absurd (omega (arith, some-byte)) }
+returns-2 c = record { missing = λ zero within tail. omega (arith, c .if2 .left); there = λ some-byte. absurd (omega (arith, some-byte)) }
 
 returns-3 : tie.Need-returns-3
 returns-3 c = record { missing = λ zero within tail. omega (arith, c .if1 .left, within); there = λ some-byte. absurd (omega (arith, some-byte)) }
 
 pub tail-at-spec : {M : Type 1} → statement M
-tail-at-spec = tie.close (tie.spec shared-slice-read-wide wide-requires returns returns-2 returns-3)
+tail-at-spec = tie.close (tie.spec shared-slice-read-b wide-requires returns returns-2 returns-3)
