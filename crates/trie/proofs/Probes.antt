@@ -39,27 +39,30 @@ next-is-slot n i next e h = rw e (next-below n i h)
 
 -- ---- a turn of a probe with n slots left, carried to the answer r of the whole probe
 
-module _ (keys : List ℕ) (key i n : ℕ) (r : Probe) (same : probeFrom n keys key i ≡ r) where
-  pub probe-endless : n ≤ 0 → Endless ≡ r
+module _ (keys : List ℕ) (key i n : ℕ) (r : Probe) (same : probeFrom n keys key i ≡ r) (some : 0 < n) where
+  turn : probeFrom (suc (n - 1)) keys key i ≡ r
+  turn = subst (λ (m : ℕ). probeFrom m keys key i ≡ r) (omega arith) same
+
+  pub probe-found : getD keys i 0 % 2 ^ 48 ≡ key → Found i ≡ r
   unfolding probeFrom
-  probe-endless none = let none-left : n ≡ 0 = omega arith in rw none-left at same
+  probe-found has = rw (eq-eqb _ _ has, probeFrom) at turn
 
-  module _ (some : 0 < n) where
-    turn : probeFrom (suc (n - 1)) keys key i ≡ r
-    turn = subst (λ (m : ℕ). probeFrom m keys key i ≡ r) (omega arith) same
-
-    pub probe-found : getD keys i 0 % 2 ^ 48 ≡ key → Found i ≡ r
+  module _ (other : getD keys i 0 % 2 ^ 48 ≡ key → ⊥) where
+    pub probe-empty : getD keys i 0 ≡ 0 → Empty i ≡ r
     unfolding probeFrom
-    probe-found has = rw (eq-eqb _ _ has, probeFrom) at turn
+    probe-empty empty = rw (ne-eqb _ _ other, eq-eqb _ _ empty, probeFrom) at turn
 
-    module _ (other : getD keys i 0 % 2 ^ 48 ≡ key → ⊥) where
-      pub probe-empty : getD keys i 0 ≡ 0 → Empty i ≡ r
+    module _ (taken : getD keys i 0 ≡ 0 → ⊥) where
+      onward : probeFrom (n - 1) keys key (nextSlot (length keys) i) ≡ r
       unfolding probeFrom
-      probe-empty empty = rw (ne-eqb _ _ other, eq-eqb _ _ empty, probeFrom) at turn
+      onward = rw (ne-eqb _ _ other, ne-eqb _ _ taken, probeFrom) at turn
 
-      pub probe-on : (next : ℕ) → next ≡ nextSlot (length keys) i → (getD keys i 0 ≡ 0 → ⊥) → probeFrom (n - 1) keys key next ≡ r
+      pub probe-on : (next : ℕ) → next ≡ nextSlot (length keys) i → probeFrom (n - 1) keys key next ≡ r
+      probe-on next e = rw e onward
+
+      pub probe-endless : n - 1 ≡ 0 → Endless ≡ r
       unfolding probeFrom
-      probe-on next e taken = rw e (rw (ne-eqb _ _ other, ne-eqb _ _ taken, probeFrom) at turn)
+      probe-endless none-left = rw none-left at onward
 
 -- ---- the same of a search for an empty slot
 

@@ -32,6 +32,9 @@ module _ (n : ℕ) (allowed : SlotCount n) where
   unfolding SlotCount
   size = (omega (arith, allowed .0, pow-mono (allowed .1)), omega (arith, allowed .0, pow-mono (allowed .2)))
 
+  pub slot-left : 0 < n
+  slot-left = omega (arith, size)
+
   pub shift-is : leadingZeros 64 n + 1 ≡ 64 - log2 n
   shift-is = let s = size in omega (arith, zeros-and-log n (omega arith) (omega arith))
 

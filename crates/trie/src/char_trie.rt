@@ -32,7 +32,7 @@ fn next_slot(n: usize, i: usize) -> usize
 }
 
 // The slot that holds the (filter-free) key, or the empty slot that its probe meets first. The Rust's probe has no third end:
-// its tables always have an empty slot.
+// its tables always have an empty slot. Whether a slot is left is asked after one was looked at, and not before the first.
 pub fn probe(keys: &[u64], shift: u32, key: u64) -> Probe
     requires { ⌜ SlotCount (length (now keys)) ⌝ }
     requires { ⌜ shift ≡ 64 - log2 (length (now keys)) ⌝ }
@@ -40,7 +40,7 @@ pub fn probe(keys: &[u64], shift: u32, key: u64) -> Probe
 {
     let mut left = keys.len();
     let mut i = index(key, shift);
-    while 0 < left {
+    loop {
         let stored = keys[i];
         if stored % KEYS == key {
             return Probe::Found(i);
@@ -48,10 +48,12 @@ pub fn probe(keys: &[u64], shift: u32, key: u64) -> Probe
         if stored == 0 {
             return Probe::Empty(i);
         }
-        i = next_slot(keys.len(), i);
         left -= 1;
+        if left == 0 {
+            return Probe::Endless;
+        }
+        i = next_slot(keys.len(), i);
     }
-    Probe::Endless
 }
 
 // The first empty slot from a key's start on: where a new step goes. It does not look for the key.
