@@ -17,7 +17,8 @@ pub fn minus_infinity() -> f64
 // L of an n of at least 1, as a whole number. m / 2^31 is n less its power of two, from 1 to below 2, and p is its square, which
 // has twice the logarithm: the next bit is whether p is 2^63 or more. The squares that may come next are both worked out before
 // that is tested, the second modulo 2^32 so that it fits where it is not taken. The compiler then makes the test a jump, and not
-// a shift by what it finds; a total's jumps are the same at every cut, so that the machine foresees them.
+// a shift by what it finds; a total's jumps are the same at every cut, so that the machine foresees them. A bit that is 1 is
+// added at its place, so that for a 0 nothing is done.
 pub fn log_scaled(n: u32) -> u64
     requires { ⌜ 0 < n ⌝ }
     ensures { λ r. ⌜ r ≡ logOf n ⌝ }
@@ -32,14 +33,13 @@ pub fn log_scaled(n: u32) -> u64
         let low = (p >> 31) % 0x1_0000_0000;
         let after_one = high * high;
         let after_zero = low * low;
+        left -= 1;
         if p >= 0x8000_0000_0000_0000 {
             p = after_one;
-            bits = bits * 2 + 1;
+            bits += 1u64 << left;
         } else {
             p = after_zero;
-            bits = bits * 2;
         }
-        left -= 1;
     }
     (31 - zeros) as u64 * 0x100_0000 + bits
 }

@@ -1,10 +1,9 @@
 -- `score::log_scaled` meets its contract. The loop's invariant is `Squared`: the bits so far, with those of the squarings left, are the definition's.
 -- The measure is the number of turns left. That the leading zeros are at most 31 is `position`.
 -- Assumes nothing.
-use mathlib.Core.Logic.{⊎-elim}
 use native.Mathlib.Omega.{arith}
 use Rattle.score.proofs.HighestOne.{position}
-use Rattle.score.proofs.Turns.{Squared, starts, starts-squared, turn-one, turn-zero, squared-below, square-fits, ends}
+use Rattle.score.proofs.Turns.{Squared, starts, starts-squared, turn-one, turn-zero, bit-fits, squared-below, square-fits, ends}
 use Rattle.score.proofs.log_scaled.Statement.{statement}
 use Rattle.score.proofs.log_scaled.Tie as tie
 
@@ -32,23 +31,29 @@ mul-after-one c = square-fits _ (omega (arith, squared-below _ _ _ _ (c .before 
 mul-after-zero : tie.Need-mul-after-zero Inv-loop μ-loop
 mul-after-zero c = square-fits _ (omega arith)
 
-mul-bits : tie.Need-mul-bits Inv-loop μ-loop
-mul-bits c = omega arith
-
-add-bits : tie.Need-add-bits Inv-loop μ-loop
-add-bits c = omega arith
-
-mul-bits-2 : tie.Need-mul-bits-2 Inv-loop μ-loop
-mul-bits-2 c = omega arith
-
 sub-left : tie.Need-sub-left Inv-loop μ-loop
 sub-left c = omega arith
+
+cast-bits : tie.Need-cast-bits Inv-loop μ-loop
+cast-bits c = omega arith
+
+shl-bits : tie.Need-shl-bits Inv-loop μ-loop
+shl-bits c = omega arith
+
+add-bits : tie.Need-add-bits Inv-loop μ-loop
+add-bits c = search bit-fits
 
 loop-less : tie.Need-loop-less Inv-loop μ-loop
 loop-less c = omega arith
 
 loop-again : tie.Need-loop-again Inv-loop μ-loop
-loop-again c = ⊎-elim (λ w. search turn-one) (λ w. search turn-zero) (c .if1 .came)
+loop-again c = search turn-one
+
+loop-less-2 : tie.Need-loop-less-2 Inv-loop μ-loop
+loop-less-2 c = omega arith
+
+loop-again-2 : tie.Need-loop-again-2 Inv-loop μ-loop
+loop-again-2 c = search turn-zero
 
 sub-result : tie.Need-sub-result Inv-loop μ-loop
 sub-result c = omega (arith, position (c .before .before .args .n) (c .before .before .pre) (c .before .before .fits .n .fits))
@@ -77,12 +82,14 @@ log-scaled-spec =
     loop-holds
     mul-after-one
     mul-after-zero
-    mul-bits
-    add-bits
-    mul-bits-2
     sub-left
+    cast-bits
+    shl-bits
+    add-bits
     loop-less
     loop-again
+    loop-less-2
+    loop-again-2
     sub-result
     cast-result
     mul-result
