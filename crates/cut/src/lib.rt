@@ -1,7 +1,8 @@
 //! `cut` and `cut_for_search` (lib.rs): a sentence into words, and into words with the parts and the shorter words that a search
 //! may ask for.
 //!
-//! Both are `tokenize` with one mode. What they are lent, and what becomes of it, is said there.
+//! Both are `tokenize` with one mode, and stand over the function that it stands over. What they are lent, and what becomes of
+//! it, is said there.
 ghost use mathlib.Core.Path.{_≡_};
 ghost use mathlib.Core.Bool.{false};
 ghost use Rattle.trie.specs.Lent.{was, became};
@@ -40,7 +41,16 @@ pub fn cut(
         (workLent chars offsets starts scores ends records) (was tokens) (was sentence) ≡ false
         → Unchanged chars × Unchanged offsets × Unchanged starts × Unchanged scores × Unchanged ends × Unchanged records × Unchanged «edge_ends» × Unchanged «edge_records») ⌝ }
 {
-    tokenize::tokenize(
+    let shortest = sentence::shortest(
+        chars.len(),
+        offsets.len(),
+        starts.len(),
+        scores.len(),
+        ends.len(),
+        records.len(),
+    );
+    let room = sentence::shorter(edge_ends.len(), edge_records.len());
+    tokenize::cut_sentence(
         head,
         root_children,
         root_words,
@@ -51,6 +61,7 @@ pub fn cut(
         logarithms,
         sentence,
         TokenizeMode::Default,
+        shortest,
         chars,
         offsets,
         starts,
@@ -59,6 +70,7 @@ pub fn cut(
         records,
         edge_ends,
         edge_records,
+        room,
         tokens,
     )
 }
@@ -90,7 +102,16 @@ pub fn cut_for_search(
         (workLent chars offsets starts scores ends records) (was tokens) (was sentence) ≡ false
         → Unchanged chars × Unchanged offsets × Unchanged starts × Unchanged scores × Unchanged ends × Unchanged records × Unchanged «edge_ends» × Unchanged «edge_records») ⌝ }
 {
-    tokenize::tokenize(
+    let shortest = sentence::shortest(
+        chars.len(),
+        offsets.len(),
+        starts.len(),
+        scores.len(),
+        ends.len(),
+        records.len(),
+    );
+    let room = sentence::shorter(edge_ends.len(), edge_records.len());
+    tokenize::cut_sentence(
         head,
         root_children,
         root_words,
@@ -101,6 +122,7 @@ pub fn cut_for_search(
         logarithms,
         sentence,
         TokenizeMode::Search,
+        shortest,
         chars,
         offsets,
         starts,
@@ -109,6 +131,7 @@ pub fn cut_for_search(
         records,
         edge_ends,
         edge_records,
+        room,
         tokens,
     )
 }

@@ -240,16 +240,16 @@ pub fn cut_all(
     let work = sentence::shorter(chars.len(), offsets.len());
     let tested = sentence::begin(
         head,
-        root_children,
-        root_words,
-        keys,
-        children,
-        words,
-        frequencies,
-        logarithms,
+        frequencies.len(),
+        logarithms.len(),
+        root_children.len(),
+        root_words.len(),
+        keys.len(),
+        children.len(),
+        words.len(),
         sentence,
         work,
-        tokens,
+        tokens.len(),
     );
     if !book::is_done(tested) {
         return Cut {

@@ -3,7 +3,7 @@
 -- Assumes nothing.
 use mathlib.Core.Path.{_≡_, refl, sym, ap, _∙_}
 use mathlib.Core.Bool.{Bool, true, false, cond, _&&_, false≢true}
-use mathlib.Core.List.{List}
+use mathlib.Core.List.{List, [], _∷_}
 use mathlib.Core.Option.{Option, none, some}
 use Prim.Native.Nat.{ℕ, _+_, _%_, _≤_, _<_}
 use native.Mathlib.Omega.{arith}
@@ -17,7 +17,7 @@ use Rattle.book.specs.declared.Outcome.{Outcome}
 use Rattle.book.specs.declared.Outcome.the-variants.{Done, BadAreas, TooLong, Malformed, Damaged, WorkTooShort}
 use Rattle.book.specs.Returns.{isDone, longestText}
 use Rattle.cuts.specs.Tokens.{Written, written, tokenWidth}
-use Rattle.cuts.specs.Slices.{shorter}
+use Rattle.cuts.specs.Slices.{shorter, shortest}
 use Rattle.cuts.specs.Cuts.{CutAnswer, answer, Tested, cutChars, cutWith, begins}
 
 -- ---- the tests, one after the other
@@ -188,6 +188,10 @@ second-is-shorter a b h = rw (lt-ltb b a h)
 
 pub first-is-shorter : (a b : ℕ) → a ≤ b → a ≡ shorter a b
 first-is-shorter a b h = rw (le-ltb b a h)
+
+-- slice by slice
+pub shortest-found : (a b c d e f v w x y z : ℕ) → v ≡ shorter a b → w ≡ shorter v c → x ≡ shorter w d → y ≡ shorter x e → z ≡ shorter y f → z ≡ shortest a (b ∷ c ∷ d ∷ e ∷ f ∷ [])
+shortest-found a b c d e f v w x y z ev ew ex ey ez = rw (ez, ey, ex, ew, ev) refl
 
 pub shorter-first : (a b : ℕ) → shorter a b ≤ a
 shorter-first a b = by (ltb b a) refl

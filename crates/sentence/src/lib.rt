@@ -1,15 +1,17 @@
 //! The tests that come before a sentence is cut, in document 01's order: 1, 2, 3, 9 and the head's 8.
 //!
-//! The Rust has none of them: its `&str` is well formed, and its tables grow. All that is lent is read here, and nothing is
-//! written, so that a cut that does not begin leaves every area as it was.
+//! The Rust has none of them: its `&str` is well formed, and its tables grow. Nothing is written here, so that a cut that does
+//! not begin leaves every area as it was.
 ghost use mathlib.Core.Path.{_≡_};
+ghost use mathlib.Core.List.{List, [], _∷_};
+ghost use Prim.Native.Nat.{ℕ};
 ghost use lib.ListN.{length};
 ghost use Rattle.trie.specs.Lent.{was};
 ghost use Rattle.book.specs.declared.Outcome.the-variants.{Done};
-ghost use Rattle.book.specs.Areas.{bookLent};
 ghost use Rattle.cuts.specs.Slices as Slices;
 ghost use Rattle.cuts.specs.Tokens.{written};
-ghost use Rattle.cuts.specs.Cuts.{answer, testedBook, cutWith};
+ghost use Rattle.cuts.specs.Cuts.{answer, cutWith};
+ghost use Rattle.sentence.specs.Sizes.{testedSizes};
 use book::Head;
 use book::Outcome;
 use utf8::CharCount;
@@ -24,35 +26,55 @@ pub fn shorter(a: usize, b: usize) -> usize
     a
 }
 
-// Whether a sentence is cut, by the sizes of what is lent, its bytes and the book's head: `Done` if so, or what it is refused
-// with.
+// The same of the six slices of a work area.
+pub fn shortest(
+    chars: usize,
+    offsets: usize,
+    starts: usize,
+    scores: usize,
+    ends: usize,
+    records: usize,
+) -> usize
+    ensures { λ r. ⌜ r ≡ Slices.shortest chars (offsets ∷ starts ∷ scores ∷ ends ∷ records ∷ []) ⌝ }
+{
+    let work = shorter(chars, offsets);
+    let work = shorter(work, starts);
+    let work = shorter(work, scores);
+    let work = shorter(work, ends);
+    shorter(work, records)
+}
+
+// Whether a sentence is cut, by the lengths of what is lent, its bytes and the book's head: `Done` if so, or what it is refused
+// with. It is called and not inlined, and of an area it asks the length alone: so a length is what it takes. The records' come
+// first, apart from the slots': side by side the compiler moves two lengths as one, which waits for the stores of both.
 pub fn begin(
     head: Head,
-    root_children: &[u32],
-    root_words: &[i32],
-    keys: &[u64],
-    children: &[u32],
-    words: &[i32],
-    frequencies: &[u32],
-    logarithms: &[f64],
+    frequencies: usize,
+    logarithms: usize,
+    root_children: usize,
+    root_words: usize,
+    keys: usize,
+    children: usize,
+    words: usize,
     sentence: &[u8],
     work: usize,
-    tokens: &[u32],
+    tokens: usize,
 ) -> Outcome
-    ensures { λ r. ⌜ answer r (written 0 (was tokens)) ≡ cutWith (testedBook (bookLent head «root_children» «root_words» keys children words frequencies logarithms)) work (was tokens) (λ cs. answer Done) (was sentence) ⌝ }
+    ensures { λ r. ⌜ ((area : List ℕ) → length area ≡ tokens
+        → answer r (written 0 area) ≡ cutWith (testedSizes head «root_children» «root_words» keys children words frequencies logarithms) work area (λ cs. answer Done) (was sentence)) ⌝ }
 {
     if !book::is_allowed(
-        root_children.len(),
-        root_words.len(),
-        keys.len(),
-        children.len(),
-        words.len(),
-        frequencies.len(),
-        logarithms.len(),
+        root_children,
+        root_words,
+        keys,
+        children,
+        words,
+        frequencies,
+        logarithms,
     ) {
         return Outcome::BadAreas;
     }
-    if tokens.len() % cuts::TOKEN_WIDTH != 0 {
+    if tokens % cuts::TOKEN_WIDTH != 0 {
         return Outcome::BadAreas;
     }
     if book::LONGEST_TEXT < sentence.len() {
@@ -64,7 +86,7 @@ pub fn begin(
     if work <= count {
         return Outcome::WorkTooShort;
     }
-    if book::is_head_damaged(head, frequencies.len(), keys.len()) {
+    if book::is_head_damaged(head, frequencies, keys) {
         return Outcome::Damaged;
     }
     Outcome::Done

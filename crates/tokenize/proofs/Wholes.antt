@@ -4,7 +4,7 @@ use mathlib.Core.Path.{_≡_, refl, sym, ap, _∙_}
 use mathlib.Core.Bool.{true, false}
 use mathlib.Core.List.{List}
 use mathlib.Core.Option.{IsSome}
-use Prim.Native.Nat.{ℕ, _<_}
+use Prim.Native.Nat.{ℕ, _≤_, _<_}
 use native.Mathlib.Omega.{arith}
 use lib.Ieee.{Float}
 use lib.ListN.{length}
@@ -19,7 +19,7 @@ use Rattle.cuts.specs.Blocks.{blocksOf}
 use Rattle.cuts.specs.Edges.{vocabularyOf}
 use Rattle.cuts.specs.Slices.{shorter}
 use Rattle.cuts.specs.Tokens.{written}
-use Rattle.cuts.specs.Cuts.{CutAnswer, answer, cutBlocks, start, testedBook, cutWith, begins, cutOf, cutForSearchOf, tokenizeOf}
+use Rattle.cuts.specs.Cuts.{CutAnswer, answer, cutBlocks, start, Tested, testedBook, cutWith, begins, cutOf, cutForSearchOf, tokenizeOf}
 use Rattle.sentence.proofs.Beginning.{Begun, refused, begun, has-begun, shorter-first, shorter-second}
 use Rattle.splitter.specs.Runs.{textFrom}
 use Rattle.splitter.proofs.Sentences.{text-start}
@@ -35,11 +35,7 @@ unfolding tokenizeOf cutOf cutForSearchOf blockBy
 by-blocks Default b work room tokens sentence = refl
 by-blocks Search b work room tokens sentence = refl
 
--- the tests are given the work area's length as it was found
-module _ (mode : TokenizeMode) (b : Book) (work found room : ℕ) (tokens sentence : List ℕ) (o : Outcome) (tests-found : answer o (written 0 tokens) ≡ cutWith (testedBook b) found tokens (λ cs. answer Done) sentence) (length-found : found ≡ work) where
-  tests : answer o (written 0 tokens) ≡ cutWith (testedBook b) work tokens (λ cs. answer Done) sentence
-  tests = rw (← length-found) tests-found
-
+module _ (mode : TokenizeMode) (b : Book) (work room : ℕ) (tokens sentence : List ℕ) (o : Outcome) (tests : answer o (written 0 tokens) ≡ cutWith (testedBook b) work tokens (λ cs. answer Done) sentence) where
   pub cut-begun : isDone o ≡ true → Begun (testedBook b) work tokens sentence
   cut-begun done = begun (testedBook b) work tokens sentence o tests done
 
@@ -51,26 +47,28 @@ module _ (mode : TokenizeMode) (b : Book) (work found room : ℕ) (tokens senten
       refused (testedBook b) work tokens sentence o tests other (λ cs. cutBlocks (blockBy mode (vocabularyOf b) room) start (blocksOf cutClass cs))
       ∙ sym (by-blocks mode b work room tokens sentence)
 
-  pub whole-cut : isDone o ≡ true → (room-found : ℕ) → room-found ≡ room
-      → (a : CutAnswer) → a ≡ cutBlocks (blockBy mode (vocabularyOf b) room-found) start (blocksOf cutClass (textFrom sentence 0)) (written 0 tokens) → a ≡ tokenizeOf mode b work room tokens sentence
-  whole-cut done room-found same-room a same =
+  pub whole-cut : isDone o ≡ true → (a : CutAnswer) → a ≡ cutBlocks (blockBy mode (vocabularyOf b) room) start (blocksOf cutClass (textFrom sentence 0)) (written 0 tokens) → a ≡ tokenizeOf mode b work room tokens sentence
+  whole-cut done a same =
       let began = cut-begun done in
       same
-      ∙ ap (λ (k : ℕ). cutBlocks (blockBy mode (vocabularyOf b) k) start (blocksOf cutClass (textFrom sentence 0)) (written 0 tokens)) same-room
       ∙ ap (λ (cs : List ℕ). cutBlocks (blockBy mode (vocabularyOf b) room) start (blocksOf cutClass cs) (written 0 tokens)) (text-start sentence (began .chars) (began .read))
       ∙ sym (began .cut (λ cs. cutBlocks (blockBy mode (vocabularyOf b) room) start (blocksOf cutClass cs)))
       ∙ sym (by-blocks mode b work room tokens sentence)
 
+-- ---- the areas as they are measured before the call: the places used are all there are
+
+module _ (work found : ℕ) (tokens sentence : List ℕ) (measured : found ≡ work) where
+  pub measured-cut : (mode : TokenizeMode) (b : Book) (room found-room : ℕ) → found-room ≡ room → (a : CutAnswer) → a ≡ tokenizeOf mode b found found-room tokens sentence → a ≡ tokenizeOf mode b work room tokens sentence
+  measured-cut mode b room found-room same-room a same = rw (← measured, ← same-room) same
+
+  pub measured-begins : (t : Tested) → begins t work tokens sentence ≡ false → begins t found tokens sentence ≡ false
+  measured-begins t none = rw measured none
+
 -- ---- the work area
 
 module _ (chars offsets starts : List ℕ) (scores : List Float) (ends records : List ℕ) where
-  -- its length, found slice by slice
-  pub work-found : (a b c d e : ℕ) → a ≡ shorter (length chars) (length offsets) → b ≡ shorter a (length starts) → c ≡ shorter b (length scores) → d ≡ shorter c (length ends) → e ≡ shorter d (length records)
-      → e ≡ workOf chars offsets starts scores ends records
-  work-found a b c d e ea eb ec ed ee = rw (ee, ed, ec, eb, ea) refl
-
-  pub work-fits : (n : ℕ) → n < workOf chars offsets starts scores ends records → WorkFits n chars offsets starts scores ends records
-  work-fits n h =
+  pub work-fits : (n work : ℕ) → n < work → work ≤ workOf chars offsets starts scores ends records → WorkFits n chars offsets starts scores ends records
+  work-fits n work h within =
       let a = shorter (length chars) (length offsets) in
       let b = shorter a (length starts) in
       let c = shorter b (length scores) in

@@ -1,5 +1,5 @@
 //! `tokenize` (lib.rs): a sentence into words, along the best route through each of its blocks, by a mode. `cut` and
-//! `cut_for_search` are this call with one mode each.
+//! `cut_for_search` are this call with one mode each. All three stand over `cut_sentence`.
 //!
 //! The Rust takes its scratch from a thread and its tokens from the heap. Here the caller lends all of it. The work area is six
 //! slices, which a block fills from their start: its characters, their byte offsets, the place of each position's first edge,
@@ -24,7 +24,7 @@ ghost use Rattle.cuts.specs.Cuts.{cutAnswer, cutBlocks, start, testedBook, begi
 ghost use Rattle.splitter.specs.Runs.{textFrom};
 ghost use Rattle.block.specs.Routes.{blockBy};
 ghost use Rattle.block.specs.Plans.{WorkFits, Planned};
-ghost use Rattle.tokenize.specs.Areas.{workLent, roomLent};
+ghost use Rattle.tokenize.specs.Areas.{workOf, roomOf, workLent, roomLent};
 use block::Plan;
 use book::Head;
 use book::Outcome;
@@ -102,8 +102,10 @@ fn cut_blocks(
     }
 }
 
-// Cuts a sentence into words: by `Default` as `cut`, by `Search` as `cut_for_search`.
-pub fn tokenize(
+// Cuts a sentence by a mode, with so many places of the work area and of the edge area. Three calls have it in common, so that it
+// is called and not inlined, and each slice costs a place and a length. It takes the two numbers of places: then the lengths of
+// the work and edge slices are not used, and the compiler does not pass them.
+pub fn cut_sentence(
     head: Head,
     root_children: &[u32],
     root_words: &[i32],
@@ -114,6 +116,7 @@ pub fn tokenize(
     logarithms: &[f64],
     sentence: &[u8],
     mode: TokenizeMode,
+    work: usize,
     chars: &mut [u32],
     offsets: &mut [u32],
     starts: &mut [usize],
@@ -122,31 +125,35 @@ pub fn tokenize(
     records: &mut [u32],
     edge_ends: &mut [u32],
     edge_records: &mut [u32],
+    room: usize,
     tokens: &mut [u32],
 ) -> Cut
-    ensures { λ r. ⌜ cutAnswer r (became tokens) ≡ tokenizeOf mode (bookLent head «root_children» «root_words» keys children words frequencies logarithms)
-        (workLent chars offsets starts scores ends records) (roomLent «edge_ends» «edge_records») (was tokens) (was sentence) ⌝ }
-    ensures { λ _. ⌜ (begins (testedBook (bookLent head «root_children» «root_words» keys children words frequencies logarithms))
-        (workLent chars offsets starts scores ends records) (was tokens) (was sentence) ≡ false
+    requires { ⌜ (work ≤ workOf (now chars) (now offsets) (now starts) (now scores) (now ends) (now records)) × (room ≤ roomOf (now «edge_ends») (now «edge_records»)) ⌝ }
+    ensures { λ r. ⌜ cutAnswer r (became tokens) ≡ tokenizeOf mode (bookLent head «root_children» «root_words» keys children words frequencies logarithms) work room (was tokens) (was sentence) ⌝ }
+    ensures { λ _. ⌜ (begins (testedBook (bookLent head «root_children» «root_words» keys children words frequencies logarithms)) work (was tokens) (was sentence) ≡ false
         → Unchanged chars × Unchanged offsets × Unchanged starts × Unchanged scores × Unchanged ends × Unchanged records × Unchanged «edge_ends» × Unchanged «edge_records») ⌝ }
 {
-    let work = sentence::shorter(chars.len(), offsets.len());
-    let work = sentence::shorter(work, starts.len());
-    let work = sentence::shorter(work, scores.len());
-    let work = sentence::shorter(work, ends.len());
-    let work = sentence::shorter(work, records.len());
+    // What is only read is lent anew, so that the compiler reads each slice's place and length once, at the call, and passes
+    // the two. Else it passes where they are kept, and they are read there each time.
+    let root_children = &*root_children;
+    let root_words = &*root_words;
+    let keys = &*keys;
+    let children = &*children;
+    let words = &*words;
+    let logarithms = &*logarithms;
+    let sentence = &*sentence;
     let tested = sentence::begin(
         head,
-        root_children,
-        root_words,
-        keys,
-        children,
-        words,
-        frequencies,
-        logarithms,
+        frequencies.len(),
+        logarithms.len(),
+        root_children.len(),
+        root_words.len(),
+        keys.len(),
+        children.len(),
+        words.len(),
         sentence,
         work,
-        tokens,
+        tokens.len(),
     );
     if !book::is_done(tested) {
         return Cut {
@@ -176,7 +183,69 @@ pub fn tokenize(
         records,
         edge_ends,
         edge_records,
-        sentence::shorter(edge_ends.len(), edge_records.len()),
+        room,
+        tokens,
+    )
+}
+
+// Cuts a sentence into words: by `Default` as `cut`, by `Search` as `cut_for_search`.
+pub fn tokenize(
+    head: Head,
+    root_children: &[u32],
+    root_words: &[i32],
+    keys: &[u64],
+    children: &[u32],
+    words: &[i32],
+    frequencies: &[u32],
+    logarithms: &[f64],
+    sentence: &[u8],
+    mode: TokenizeMode,
+    chars: &mut [u32],
+    offsets: &mut [u32],
+    starts: &mut [usize],
+    scores: &mut [f64],
+    ends: &mut [u32],
+    records: &mut [u32],
+    edge_ends: &mut [u32],
+    edge_records: &mut [u32],
+    tokens: &mut [u32],
+) -> Cut
+    ensures { λ r. ⌜ cutAnswer r (became tokens) ≡ tokenizeOf mode (bookLent head «root_children» «root_words» keys children words frequencies logarithms)
+        (workLent chars offsets starts scores ends records) (roomLent «edge_ends» «edge_records») (was tokens) (was sentence) ⌝ }
+    ensures { λ _. ⌜ (begins (testedBook (bookLent head «root_children» «root_words» keys children words frequencies logarithms))
+        (workLent chars offsets starts scores ends records) (was tokens) (was sentence) ≡ false
+        → Unchanged chars × Unchanged offsets × Unchanged starts × Unchanged scores × Unchanged ends × Unchanged records × Unchanged «edge_ends» × Unchanged «edge_records») ⌝ }
+{
+    let shortest = sentence::shortest(
+        chars.len(),
+        offsets.len(),
+        starts.len(),
+        scores.len(),
+        ends.len(),
+        records.len(),
+    );
+    let room = sentence::shorter(edge_ends.len(), edge_records.len());
+    cut_sentence(
+        head,
+        root_children,
+        root_words,
+        keys,
+        children,
+        words,
+        frequencies,
+        logarithms,
+        sentence,
+        mode,
+        shortest,
+        chars,
+        offsets,
+        starts,
+        scores,
+        ends,
+        records,
+        edge_ends,
+        edge_records,
+        room,
         tokens,
     )
 }

@@ -1,11 +1,18 @@
--- `cut::cut` meets its contract: it is `tokenize` by `Default`. Assumes nothing.
+-- `cut::cut` meets its contract: the areas are measured, and cut with by `Default`. Assumes nothing.
 use borrow.Author.Needs.{needs}
+use Rattle.tokenize.proofs.Wholes.{measured-cut, measured-begins}
 use Rattle.cut.proofs.Modes.{by-default}
 use Rattle.cut.proofs.cut.Statement.{statement}
 use Rattle.cut.proofs.cut.Tie as tie
 
-tokenize-requires : tie.Need-tokenize-requires
-tokenize-requires c κs = search needs
+shortest-requires : tie.Need-shortest-requires
+shortest-requires c κs = search needs
+
+shorter-requires : tie.Need-shorter-requires
+shorter-requires c κs = search needs
+
+cut-sentence-requires : tie.Need-cut-sentence-requires
+cut-sentence-requires c κs = search needs
 
 same-length : tie.Need-same-length
 same-length c = search needs
@@ -37,13 +44,19 @@ same-length-9 c = search needs
 returns : tie.Need-returns
 returns c =
     let called = c .before .before .before .before .before .before .before .before .before .before .before .before .before .before .before .before .before .before in
-    (by-default _ _ _ _ _ _ (called .tokenize .ensures .0), called .tokenize .ensures .1)
+    let edges = called .before .before .before .before .before .before .before .before .before .before in
+    let work = edges .before in (
+      by-default _ _ _ _ _ _ (measured-cut _ _ _ _ (work .shortest .ensures) _ _ _ _ (edges .shorter .ensures) _ (called .cut-sentence .ensures .0)),
+      λ none. called .cut-sentence .ensures .1 (measured-begins _ _ _ _ (work .shortest .ensures) _ none),
+    )
 
 pub cut-spec : {M : Type 1} → statement M
 cut-spec =
     tie.close
     (tie.spec
-    tokenize-requires
+    shortest-requires
+    shorter-requires
+    cut-sentence-requires
     same-length
     same-length-2
     same-length-3

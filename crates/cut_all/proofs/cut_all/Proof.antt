@@ -13,10 +13,10 @@ use Rattle.cut_all.proofs.cut_all.Tie as tie
 
 -- the outcome of the tests, from what `shorter` and `begin` ensure
 tests : (c : tie.After-begin)
-    → let args = c .before .before .before .before .before .before .before .before .before .before .before .before .args in
+    → let args = c .before .before .before .before .before .before .before .before .before .before .before .args in
     Tests (args .head) (args .root-children .now) (args .root-words .now) (args .keys .now) (args .children .now) (args .words .now) (args .frequencies .now) (args .logarithms .now)
     (args .sentence .now) (args .chars .now) (args .offsets .now) (args .tokens .now) (c .begin .result)
-tests c = tested _ _ _ _ _ _ _ _ _ _ _ _ _ _ (c .before .before .shorter .ensures) (c .begin .ensures)
+tests c = tested _ _ _ _ _ _ _ _ _ _ _ _ _ _ (c .before .shorter .ensures) (c .begin .ensures _ refl)
 
 -- they pass the sentence
 passed : (c : tie.Else1) → isDone (c .before .before .begin .result) ≡ true
@@ -60,9 +60,6 @@ same-length-2 c = search needs
 same-length-3 : tie.Need-same-length-3
 same-length-3 c = search needs
 
-same-length-4 : tie.Need-same-length-4
-same-length-4 c = search needs
-
 returns-2 : tie.Need-returns-2
 returns-2 c =
     let cut = c .before .before .before .before .before .before in
@@ -78,11 +75,10 @@ cut-all-spec =
     shorter-requires
     begin-requires
     is-done-requires
-    same-length
     returns
     shift-of-requires
     cut-all-blocks-requires
+    same-length
     same-length-2
     same-length-3
-    same-length-4
     returns-2)

@@ -12,18 +12,18 @@ is-allowed-requires : tie.Need-is-allowed-requires
 is-allowed-requires c κs = search needs
 
 returns : tie.Need-returns
-returns c = sizes-refused _ _ _ _ _ (sym (c .before .is-allowed .ensures) ∙ not-true _ (c .if1 .taken))
+returns c = λ area long. sizes-refused _ _ area _ _ (sym (c .before .is-allowed .ensures) ∙ not-true _ (c .if1 .taken))
 
 returns-2 : tie.Need-returns-2
 returns-2 c =
     let sized = c .before in
-    tokens-refused _ _ _ _ _ (sym (sized .before .is-allowed .ensures) ∙ not-false _ (sized .if1 .left)) (c .if2 .taken)
+    λ area long. tokens-refused _ _ area _ _ (sym (sized .before .is-allowed .ensures) ∙ not-false _ (sized .if1 .left)) (rw long (c .if2 .taken))
 
 returns-3 : tie.Need-returns-3
 returns-3 c =
     let whole = c .before in
     let sized = whole .before in
-    too-long _ _ _ _ _ (sym (sized .before .is-allowed .ensures) ∙ not-false _ (sized .if1 .left)) (whole .if2 .left) (omega (arith, c .if3))
+    λ area long. too-long _ _ area _ _ (sym (sized .before .is-allowed .ensures) ∙ not-false _ (sized .if1 .left)) (rw long (whole .if2 .left)) (omega (arith, c .if3))
 
 char-count-requires : tie.Need-char-count-requires
 char-count-requires c κs = search needs
@@ -40,7 +40,7 @@ returns-4 c =
     let short = counted .before in
     let whole = short .before in
     let sized = whole .before in
-    malformed _ _ _ _ _ (sym (sized .before .is-allowed .ensures) ∙ not-false _ (sized .if1 .left)) (whole .if2 .left) (short .if3 .left)
+    λ area long. malformed _ _ area _ _ (sym (sized .before .is-allowed .ensures) ∙ not-false _ (sized .if1 .left)) (rw long (whole .if2 .left)) (short .if3 .left)
     (sym (c .enum-told .given .1) ∙ counted .char-count .ensures)
 
 returns-5 : tie.Need-returns-5
@@ -50,7 +50,7 @@ returns-5 c =
     let short = counted .before in
     let whole = short .before in
     let sized = whole .before in
-    work-too-short _ _ _ _ _ (sym (sized .before .is-allowed .ensures) ∙ not-false _ (sized .if1 .left)) (whole .if2 .left) (omega (arith, short .if3)) _
+    λ area long. work-too-short _ _ area _ _ (sym (sized .before .is-allowed .ensures) ∙ not-false _ (sized .if1 .left)) (rw long (whole .if2 .left)) (omega (arith, short .if3)) _
     (sym (read .count .given .1) ∙ counted .char-count .ensures) (omega (arith, c .if4))
 
 is-head-damaged-requires : tie.Need-is-head-damaged-requires
@@ -67,7 +67,7 @@ returns-6 c =
     let short = counted .before in
     let whole = short .before in
     let sized = whole .before in
-    head-damaged _ _ _ _ _ (sym (sized .before .is-allowed .ensures) ∙ not-false _ (sized .if1 .left)) (whole .if2 .left) (omega (arith, short .if3)) _
+    λ area long. head-damaged _ _ area _ _ (sym (sized .before .is-allowed .ensures) ∙ not-false _ (sized .if1 .left)) (rw long (whole .if2 .left)) (omega (arith, short .if3)) _
     (sym (read .count .given .1) ∙ counted .char-count .ensures) (omega (arith, roomy .if4)) (sym (tested .is-head-damaged .ensures) ∙ c .if5 .taken)
 
 returns-7 : tie.Need-returns-7
@@ -79,7 +79,7 @@ returns-7 c =
     let short = counted .before in
     let whole = short .before in
     let sized = whole .before in
-    none-refused _ _ _ _ (sym (sized .before .is-allowed .ensures) ∙ not-false _ (sized .if1 .left)) (whole .if2 .left) (omega (arith, short .if3)) _
+    λ area long. none-refused _ _ area _ (sym (sized .before .is-allowed .ensures) ∙ not-false _ (sized .if1 .left)) (rw long (whole .if2 .left)) (omega (arith, short .if3)) _
     (sym (read .count .given .1) ∙ counted .char-count .ensures) (omega (arith, roomy .if4)) (sym (tested .is-head-damaged .ensures) ∙ c .if5 .left)
 
 pub begin-spec : {M : Type 1} → statement M

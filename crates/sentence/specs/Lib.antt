@@ -1,0 +1,2 @@
+-- The definitions that the contracts of `sentence` cite.
+pub mod Sizes
