@@ -1,14 +1,13 @@
 -- Each export by its test and its call: a head of another length is refused and nothing changed; else the call's answer, in numbers.
 -- Assumes nothing.
-use mathlib.Core.Path.{_≡_, refl, sym, ap, _∙_}
+use mathlib.Core.Path.{_≡_, sym, ap, _∙_}
 use mathlib.Core.Bool.{Bool, true, false, _&&_}
-use mathlib.Core.List.{List, [], _∷_}
+use mathlib.Core.List.{List}
 use Prim.Native.Nat.{ℕ, _≤_, _<_}
-use native.Mathlib.Omega.{arith}
 use borrow.Author.Tests.{eq-eqb, ne-eqb, le-leb, lt-leb}
 use lib.Dec.{eqb}
 use lib.Ieee.{Float}
-use lib.ListN.{length, set}
+use lib.ListN.{length}
 use Rattle.trie.specs.Trie.{CharTrie}
 use Rattle.book.specs.declared.Head.{Head}
 use Rattle.book.specs.declared.Found.{Found}
@@ -20,9 +19,9 @@ use Rattle.book.specs.Returns.{numberOf, PrepareAnswer, prepareAnswer, prepareO
 use Rattle.book.specs.Enter.{LoadAnswer, AddAnswer, loadOf, addOf}
 use Rattle.book.specs.Numbers.{foundReturns, lookupReturns}
 use Rattle.cuts.specs.declared.TokenizeMode.{TokenizeMode}
-use Rattle.cuts.specs.declared.TokenizeMode.the-variants.{Default, Search}
 use Rattle.cuts.specs.Cuts.{CutAnswer, testedBook, begins, cutOf, cutForSearchOf, tokenizeOf, cutAllOf}
-use Rattle.tongsvale.specs.Exports.{headLength, headOf, headNumbers, badAreas, exported, preparedAs, prepareExport, loadExport, addExport, foundNumbers, foundAs, lookupExport, cutNumbers, cutWhere, cutExport, cutForSearchExport, searchMode, isMode, modeOf, tokenizeExport, cutAllExport, cutBegins}
+use Rattle.numbers.specs.Numbers.{headLength, headOf, headNumbers, searchMode, isMode, modeOf}
+use Rattle.tongsvale.specs.Exports.{badAreas, exported, preparedAs, prepareExport, loadExport, addExport, foundNumbers, foundAs, lookupExport, cutNumbers, cutWhere, cutExport, cutForSearchExport, tokenizeExport, cutAllExport, cutBegins}
 
 module _ (h : List ℕ) (t : CharTrie) (f : List ℕ) (l : List Float) where
   -- ---- a head of another length
@@ -75,14 +74,6 @@ module _ (h : List ℕ) (t : CharTrie) (f : List ℕ) (l : List Float) where
           → {case : Found} → found ≡ case → foundAs (foundReturns case) ≡ lookupExport h t f l word
       unfolding lookupExport
       found-by word found e {case} is = ap (λ (x : Found). foundAs (foundReturns x)) (sym is) ∙ ap foundAs e ∙ rw (eq-eqb (length h) headLength four, ← read)
-
--- ---- the modes
-
-pub to-search : (mode : ℕ) → mode ≡ searchMode → Search ≡ modeOf mode
-to-search mode e = rw (eq-eqb mode searchMode e)
-
-pub to-default : (mode : ℕ) → (mode ≡ searchMode → ⊥) → Default ≡ modeOf mode
-to-default mode other = rw (ne-eqb mode searchMode other)
 
 -- ---- the cuts
 
@@ -159,13 +150,3 @@ module _ (h : List ℕ) (t : CharTrie) (f : List ℕ) (l : List Float) where
 
     pub not-begun-by : (mode : ℕ) → mode ≤ searchMode → (isMode mode && cutBegins h t f l work area sentence) ≡ false → begins (testedBook (bookOf v t f l)) work area sentence ≡ false
     not-begun-by mode among e = not-begun (sym (ap (λ (b : Bool). b && cutBegins h t f l work area sentence) (le-leb mode searchMode among)) ∙ e)
-
--- ---- the head's four numbers
-
-pub four-written : (h : List ℕ) (a b c d : ℕ) → length h ≡ headLength → set (set (set (set h 0 a) 1 b) 2 c) 3 d ≡ a ∷ b ∷ c ∷ d ∷ []
-four-written [] a b c d e = absurd (omega arith)
-four-written (x ∷ []) a b c d e = absurd (omega arith)
-four-written (x ∷ y ∷ []) a b c d e = absurd (omega arith)
-four-written (x ∷ y ∷ z ∷ []) a b c d e = absurd (omega arith)
-four-written (x ∷ y ∷ z ∷ w ∷ []) a b c d e = refl
-four-written (x ∷ y ∷ z ∷ w ∷ u ∷ h) a b c d e = absurd (omega arith)

@@ -1,34 +1,21 @@
 -- What the exports of the static library answer: what the public calls return, in document 01's numbers (`Returned`). A head crosses as four numbers in
--- a slice, records used, slots used, next node and total; a slice of another length is an area outside the sizes, so 1.
+-- a slice (`numbers/specs/Numbers.antt`); a slice of another length is an area outside the sizes, so 1.
 -- Assumes nothing.
 use Prim.Native.Nat.{ℕ}
 use mathlib.Core.Bool.{Bool, cond, _&&_}
-use mathlib.Core.List.{List, [], _∷_}
-use lib.Dec.{eqb, leb}
+use mathlib.Core.List.{List}
+use lib.Dec.{eqb}
 use lib.Ieee.{Float}
-use lib.ListN.{length, getD}
+use lib.ListN.{length}
 use Rattle.trie.specs.Trie.{CharTrie}
-use Rattle.book.specs.declared.Head.{Head}
 use Rattle.book.specs.declared.Prepared.{Prepared}
 use Rattle.book.specs.declared.Prepared.the-variants.{Ready, Refused}
 use Rattle.book.specs.Areas.{bookOf}
 use Rattle.book.specs.Returns.{Book, numberOf, PrepareAnswer, prepareOf}
 use Rattle.book.specs.Enter.{LoadAnswer, AddAnswer, loadOf, addOf}
 use Rattle.book.specs.Numbers.{Beside, value, absent, nothing, Returned, preparedReturns, loadedReturns, addedReturns, lookupReturns}
-use Rattle.cuts.specs.declared.TokenizeMode.{TokenizeMode}
-use Rattle.cuts.specs.declared.TokenizeMode.the-variants.{Default, Search}
 use Rattle.cuts.specs.Cuts.{CutAnswer, testedBook, begins, cutOf, cutForSearchOf, tokenizeOf, cutAllOf}
-
--- ---- the head
-
-abbrev pub headLength : ℕ
-headLength = 4
-
-abbrev pub headOf : List ℕ → Head
-headOf h = record { records = getD h 0 0; slots = getD h 1 0; next = getD h 2 0; total = getD h 3 0 }
-
-abbrev pub headNumbers : Head → List ℕ
-headNumbers h = h .records ∷ h .slots ∷ h .next ∷ h .total ∷ []
+use Rattle.numbers.specs.Numbers.{headLength, headOf, headNumbers, isMode, modeOf}
 
 -- a head of another length is refused
 abbrev pub badAreas : ℕ
@@ -125,16 +112,6 @@ cutExport h t f l work room area sentence = cutWhere (eqb (length h) headLength)
 unfoldable pub cutForSearchExport : List ℕ → CharTrie → List ℕ → List Float → ℕ → ℕ → List ℕ → List ℕ → CutNumbers
 cutForSearchExport h t f l work room area sentence =
     cutWhere (eqb (length h) headLength) area (cutForSearchOf (bookOf (headOf h) t f l) work room area sentence)
-
--- the modes: 0 is `cut`, 1 is `cut_for_search`, and there is no other
-abbrev pub searchMode : ℕ
-searchMode = 1
-
-abbrev pub isMode : ℕ → Bool
-isMode mode = leb mode searchMode
-
-abbrev pub modeOf : ℕ → TokenizeMode
-modeOf mode = cond (eqb mode searchMode) Search Default
 
 unfoldable pub tokenizeExport : List ℕ → CharTrie → List ℕ → List Float → ℕ → ℕ → ℕ → List ℕ → List ℕ → CutNumbers
 tokenizeExport h t f l mode work room area sentence =

@@ -5,25 +5,17 @@
 //! records used, slots used, next node, total. `include/tongsvale.h` says what each returns.
 ghost use mathlib.Core.Path.{_≡_};
 ghost use mathlib.Core.Bool.{false, _&&_};
-ghost use lib.ListN.{length};
 ghost use Rattle.trie.specs.Lent.{was, became, trieLent, trieLeft};
 ghost use Rattle.book.specs.Returns.{numberOf};
 ghost use Rattle.cuts.specs.Slices.{Unchanged};
 ghost use Rattle.tokenize.specs.Areas as CutAreas;
 ghost use Rattle.cut_all.specs.Areas as CutAllAreas;
-ghost use Rattle.tongsvale.specs.Exports.{headLength, headOf, headNumbers, exported, prepareExport, loadExport, addExport, foundNumbers, lookupExport, badAreas, cutNumbers, cutExport, cutForSearchExport, isMode, modeOf, tokenizeExport, cutAllExport, cutBegins};
+ghost use Rattle.numbers.specs.Numbers.{isMode};
+ghost use Rattle.tongsvale.specs.Exports.{exported, prepareExport, loadExport, addExport, foundNumbers, lookupExport, badAreas, cutNumbers, cutExport, cutForSearchExport, tokenizeExport, cutAllExport, cutBegins};
 use book::Found;
-use book::Head;
 use book::Outcome;
 use book::Prepared;
 use cuts::Cut;
-use cuts::TokenizeMode;
-
-// The numbers of a head.
-const HEAD_LENGTH: usize = 4;
-
-// The mode of `cut_for_search`; that of `cut` is 0, and there is no other.
-const SEARCH: u32 = 1;
 
 // What a load returns: its number and its line.
 #[repr(C)]
@@ -52,40 +44,6 @@ pub struct TongsvaleFound {
 pub struct TongsvaleCut {
     pub number: u32,
     pub count: usize,
-}
-
-// The head in a slice.
-fn read_head(head: &[u64]) -> Head
-    requires { ⌜ length (now head) ≡ headLength ⌝ }
-    ensures { λ r. ⌜ r ≡ headOf (was head) ⌝ }
-{
-    Head {
-        records: head[0],
-        slots: head[1],
-        next: head[2],
-        total: head[3],
-    }
-}
-
-// A head into a slice.
-fn write_head(head: &mut [u64], value: Head)
-    requires { ⌜ length (now head) ≡ headLength ⌝ }
-    ensures { λ _. ⌜ became head ≡ headNumbers value ⌝ }
-{
-    head[0] = value.records;
-    head[1] = value.slots;
-    head[2] = value.next;
-    head[3] = value.total;
-}
-
-// The mode of a number.
-fn mode_of(mode: u32) -> TokenizeMode
-    ensures { λ r. ⌜ r ≡ modeOf mode ⌝ }
-{
-    if mode == SEARCH {
-        return TokenizeMode::Search;
-    }
-    TokenizeMode::Default
 }
 
 // What a cut answers, in numbers.
@@ -123,7 +81,7 @@ pub extern "C" fn tongsvale_prepare(
 ) -> u32
     ensures { λ r. ⌜ exported r 0 (became head) (trieLeft «root_children» «root_words» keys children words) (became frequencies) (became logarithms) ≡ prepareExport (was head) (trieLent «root_children» «root_words» keys children words) (was frequencies) (was logarithms) ⌝ }
 {
-    if head.len() != HEAD_LENGTH {
+    if head.len() != numbers::HEAD_LENGTH {
         return book::number_of(Outcome::BadAreas);
     }
     match prepare::prepare(
@@ -136,7 +94,7 @@ pub extern "C" fn tongsvale_prepare(
         logarithms,
     ) {
         Prepared::Ready(value) => {
-            write_head(head, value);
+            numbers::write_head(head, value);
             0
         }
         Prepared::Refused(outcome) => book::number_of(outcome),
@@ -158,14 +116,14 @@ pub extern "C" fn tongsvale_load(
 ) -> TongsvaleLoaded
     ensures { λ r. ⌜ exported (r .number) (r .line) (became head) (trieLeft «root_children» «root_words» keys children words) (became frequencies) (became logarithms) ≡ loadExport (was head) (trieLent «root_children» «root_words» keys children words) (was frequencies) (was logarithms) (was text) ⌝ }
 {
-    if head.len() != HEAD_LENGTH {
+    if head.len() != numbers::HEAD_LENGTH {
         return TongsvaleLoaded {
             number: book::number_of(Outcome::BadAreas),
             line: 0,
         };
     }
     let loaded = dict::load_dict(
-        read_head(head),
+        numbers::read_head(head),
         root_children,
         root_words,
         keys,
@@ -177,7 +135,7 @@ pub extern "C" fn tongsvale_load(
     );
     let outcome = loaded.outcome;
     let value = loaded.head;
-    write_head(head, value);
+    numbers::write_head(head, value);
     TongsvaleLoaded {
         number: book::number_of(outcome),
         line: loaded.line,
@@ -200,14 +158,14 @@ pub extern "C" fn tongsvale_add(
 ) -> TongsvaleAdded
     ensures { λ r. ⌜ exported (r .number) (r .frequency) (became head) (trieLeft «root_children» «root_words» keys children words) (became frequencies) (became logarithms) ≡ addExport (was head) (trieLent «root_children» «root_words» keys children words) (was frequencies) (was logarithms) (was word) frequency ⌝ }
 {
-    if head.len() != HEAD_LENGTH {
+    if head.len() != numbers::HEAD_LENGTH {
         return TongsvaleAdded {
             number: book::number_of(Outcome::BadAreas),
             frequency: 0,
         };
     }
     let added = addition::add_word(
-        read_head(head),
+        numbers::read_head(head),
         root_children,
         root_words,
         keys,
@@ -220,7 +178,7 @@ pub extern "C" fn tongsvale_add(
     );
     let outcome = added.outcome;
     let value = added.head;
-    write_head(head, value);
+    numbers::write_head(head, value);
     TongsvaleAdded {
         number: book::number_of(outcome),
         frequency: added.frequency,
@@ -242,7 +200,7 @@ pub extern "C" fn tongsvale_lookup(
 ) -> TongsvaleFound
     ensures { λ r. ⌜ foundNumbers (r .number) (r .held) (r .frequency) ≡ lookupExport (was head) (trieLent «root_children» «root_words» keys children words) (was frequencies) (was logarithms) (was word) ⌝ }
 {
-    if head.len() != HEAD_LENGTH {
+    if head.len() != numbers::HEAD_LENGTH {
         return TongsvaleFound {
             number: book::number_of(Outcome::BadAreas),
             held: 0,
@@ -250,7 +208,7 @@ pub extern "C" fn tongsvale_lookup(
         };
     }
     match lookup::lookup(
-        read_head(head),
+        numbers::read_head(head),
         root_children,
         root_words,
         keys,
@@ -305,11 +263,11 @@ pub extern "C" fn tongsvale_cut(
     ensures { λ _. ⌜ (cutBegins (was head) (trieLent «root_children» «root_words» keys children words) (was frequencies) (was logarithms) (CutAreas.workLent chars offsets starts scores ends records) (was tokens) (was sentence) ≡ false
         → Unchanged chars × Unchanged offsets × Unchanged starts × Unchanged scores × Unchanged ends × Unchanged records × Unchanged «edge_ends» × Unchanged «edge_records») ⌝ }
 {
-    if head.len() != HEAD_LENGTH {
+    if head.len() != numbers::HEAD_LENGTH {
         return refused();
     }
     returned(cut::cut(
-        read_head(head),
+        numbers::read_head(head),
         root_children,
         root_words,
         keys,
@@ -357,11 +315,11 @@ pub extern "C" fn tongsvale_cut_for_search(
     ensures { λ _. ⌜ (cutBegins (was head) (trieLent «root_children» «root_words» keys children words) (was frequencies) (was logarithms) (CutAreas.workLent chars offsets starts scores ends records) (was tokens) (was sentence) ≡ false
         → Unchanged chars × Unchanged offsets × Unchanged starts × Unchanged scores × Unchanged ends × Unchanged records × Unchanged «edge_ends» × Unchanged «edge_records») ⌝ }
 {
-    if head.len() != HEAD_LENGTH {
+    if head.len() != numbers::HEAD_LENGTH {
         return refused();
     }
     returned(cut::cut_for_search(
-        read_head(head),
+        numbers::read_head(head),
         root_children,
         root_words,
         keys,
@@ -410,14 +368,14 @@ pub extern "C" fn tongsvale_tokenize(
     ensures { λ _. ⌜ ((isMode mode && cutBegins (was head) (trieLent «root_children» «root_words» keys children words) (was frequencies) (was logarithms) (CutAreas.workLent chars offsets starts scores ends records) (was tokens) (was sentence)) ≡ false
         → Unchanged chars × Unchanged offsets × Unchanged starts × Unchanged scores × Unchanged ends × Unchanged records × Unchanged «edge_ends» × Unchanged «edge_records») ⌝ }
 {
-    if head.len() != HEAD_LENGTH {
+    if head.len() != numbers::HEAD_LENGTH {
         return refused();
     }
-    if SEARCH < mode {
+    if numbers::SEARCH < mode {
         return refused();
     }
     returned(tokenize::tokenize(
-        read_head(head),
+        numbers::read_head(head),
         root_children,
         root_words,
         keys,
@@ -426,7 +384,7 @@ pub extern "C" fn tongsvale_tokenize(
         frequencies,
         logarithms,
         sentence,
-        mode_of(mode),
+        numbers::mode_of(mode),
         chars,
         offsets,
         starts,
@@ -460,11 +418,11 @@ pub extern "C" fn tongsvale_cut_all(
     ensures { λ _. ⌜ (cutBegins (was head) (trieLent «root_children» «root_words» keys children words) (was frequencies) (was logarithms) (CutAllAreas.workLent chars offsets) (was tokens) (was sentence) ≡ false
         → Unchanged chars × Unchanged offsets) ⌝ }
 {
-    if head.len() != HEAD_LENGTH {
+    if head.len() != numbers::HEAD_LENGTH {
         return refused();
     }
     returned(cut_all::cut_all(
-        read_head(head),
+        numbers::read_head(head),
         root_children,
         root_words,
         keys,

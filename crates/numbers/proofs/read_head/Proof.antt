@@ -1,8 +1,8 @@
--- `tongsvale::read_head` meets its contract: the four numbers, each from its place. Assumes nothing.
+-- `numbers::read_head` meets its contract: the four numbers, each from its place. Assumes nothing.
 use mathlib.Core.Path.{refl}
 use borrow.Author.Needs.{needs}
-use Rattle.tongsvale.proofs.read_head.Statement.{statement}
-use Rattle.tongsvale.proofs.read_head.Tie as tie
+use Rattle.numbers.proofs.read_head.Statement.{statement}
+use Rattle.numbers.proofs.read_head.Tie as tie
 
 shared-slice-read-t3 : tie.Need-shared-slice-read-t3
 shared-slice-read-t3 c = search needs

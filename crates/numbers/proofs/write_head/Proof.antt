@@ -1,9 +1,8 @@
--- `tongsvale::write_head` meets its contract: four writes into four places. Assumes nothing.
-use Rattle.tongsvale.proofs.Exports.{four-written}
--- `tongsvale::write_head` meets its contract: four writes into four places. Assumes nothing.
+-- `numbers::write_head` meets its contract: four writes into four places. Assumes nothing.
 use borrow.Author.Needs.{needs}
-use Rattle.tongsvale.proofs.write_head.Statement.{statement}
-use Rattle.tongsvale.proofs.write_head.Tie as tie
+use Rattle.numbers.proofs.Numbers.{four-written}
+use Rattle.numbers.proofs.write_head.Statement.{statement}
+use Rattle.numbers.proofs.write_head.Tie as tie
 
 slice-write-head : tie.Need-slice-write-head
 slice-write-head c = search needs

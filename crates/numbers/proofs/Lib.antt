@@ -1,0 +1,2 @@
+-- What is proved of heads and modes as numbers.
+pub mod Numbers

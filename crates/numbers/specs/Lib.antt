@@ -1,0 +1,2 @@
+-- The definitions that the contracts of `numbers` cite.
+pub mod Numbers

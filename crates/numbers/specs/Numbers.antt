@@ -1,0 +1,29 @@
+-- What crosses the border of the static library as numbers. A head crosses as four, records used, slots used, next node and total; a mode as one.
+-- Assumes nothing.
+use Prim.Native.Nat.{ℕ}
+use mathlib.Core.Bool.{Bool, cond}
+use mathlib.Core.List.{List, [], _∷_}
+use lib.Dec.{eqb, leb}
+use lib.ListN.{getD}
+use Rattle.book.specs.declared.Head.{Head}
+use Rattle.cuts.specs.declared.TokenizeMode.{TokenizeMode}
+use Rattle.cuts.specs.declared.TokenizeMode.the-variants.{Default, Search}
+
+abbrev pub headLength : ℕ
+headLength = 4
+
+abbrev pub headOf : List ℕ → Head
+headOf h = record { records = getD h 0 0; slots = getD h 1 0; next = getD h 2 0; total = getD h 3 0 }
+
+abbrev pub headNumbers : Head → List ℕ
+headNumbers h = h .records ∷ h .slots ∷ h .next ∷ h .total ∷ []
+
+-- the modes: 0 is `cut`, 1 is `cut_for_search`, and there is no other
+abbrev pub searchMode : ℕ
+searchMode = 1
+
+abbrev pub isMode : ℕ → Bool
+isMode mode = leb mode searchMode
+
+abbrev pub modeOf : ℕ → TokenizeMode
+modeOf mode = cond (eqb mode searchMode) Search Default
