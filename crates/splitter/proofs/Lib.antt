@@ -4,3 +4,5 @@ pub mod Blocks
 pub mod Recordings
 pub mod Sentences
 pub mod OneKind
+pub mod Turns
+pub mod Held

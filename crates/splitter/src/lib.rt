@@ -1,8 +1,11 @@
 //! A sentence's blocks: maximal runs of one class of characters (lib.rs, `SplitByCharacterClass`).
 //!
-//! The Rust has an iterator that keeps the text and how far it has got. Here one step takes both, and answers the run that
-//! starts there. As the Rust's, it records the run's characters and where each of them starts, so that no later pass over the
-//! run decodes it again.
+//! As in the Rust, the splitter keeps the text and how far it has got. Its functions are thin: they make it, move it and ask it.
+//! The work is in steps on slice and position. `next_recording` answers the run that starts at a position, and as the Rust's it
+//! records the run's characters and where each of them starts, so that no later pass over the run decodes it again.
+//!
+//! A loop over a sentence's blocks keeps the position alone: `start`, `has_next` and `advance` make the splitter of it, and
+//! answer what it says. That the runs in turn are all blocks of the sentence is the claim `BlocksInTurn`.
 ghost use mathlib.Core.Path.{_≡_};
 ghost use mathlib.Core.Option.{IsSome};
 ghost use Prim.Native.Nat.{_≤_, _<_};
@@ -11,6 +14,7 @@ ghost use Rattle.trie.specs.Lent.{was, became};
 ghost use Rattle.utf8.specs.Text.{charsFrom};
 ghost use Rattle.book.specs.Returns.{longestText};
 ghost use Rattle.splitter.specs.Runs.{classOf, textFrom, Recorded};
+ghost use Rattle.splitter.specs.Turns.{begun, movedTo, within, hasNext};
 
 // The class of characters by which a sentence is split.
 pub enum CharacterClass {
@@ -27,6 +31,52 @@ pub struct Run {
     pub chars: usize,
     // The position of the sentence after it.
     pub end: usize,
+}
+
+// A text, and how far it has been split.
+pub struct SplitByCharacterClass<'t> {
+    pub text: &'t [u8],
+    pub pos: usize,
+}
+
+impl<'t> SplitByCharacterClass<'t> {
+    // A splitter at the text's start.
+    pub fn new(text: &'t [u8]) -> SplitByCharacterClass<'t>
+        ensures { λ r. ⌜ r ≡ begun (text .entry) ⌝ }
+    {
+        SplitByCharacterClass { text, pos: 0 }
+    }
+
+    // How far it has got.
+    pub fn position(self) -> usize
+        ensures { λ r. ⌜ r ≡ self .entry .pos ⌝ }
+    {
+        self.pos
+    }
+
+    // The same splitter behind a run, which ends there.
+    pub fn moved(self, end: usize) -> SplitByCharacterClass<'t>
+        ensures { λ r. ⌜ r ≡ movedTo (self .entry) end ⌝ }
+    {
+        SplitByCharacterClass {
+            text: self.text,
+            pos: end,
+        }
+    }
+
+    // Whether there is a run that it has not passed.
+    pub fn has_next(self) -> bool
+        ensures { λ r. ⌜ r ≡ hasNext (self .entry) ⌝ }
+    {
+        is_within(self.text, self.pos)
+    }
+}
+
+// Whether a position is before the end of the text.
+fn is_within(s: &[u8], at: usize) -> bool
+    ensures { λ r. ⌜ r ≡ within (was s) at ⌝ }
+{
+    at < s.len()
 }
 
 // Whether a character is of the class.
@@ -75,4 +125,33 @@ pub fn next_recording(
         chars: n,
         end,
     }
+}
+
+// Where the splitter of a sentence starts.
+pub fn start(sentence: &[u8]) -> usize
+    ensures { λ r. ⌜ r ≡ 0 ⌝ }
+{
+    SplitByCharacterClass::new(sentence).position()
+}
+
+// Whether the splitter of a sentence that has got to a position has a run before it.
+pub fn has_next(sentence: &[u8], at: usize) -> bool
+    ensures { λ r. ⌜ r ≡ within (was sentence) at ⌝ }
+{
+    let splitter = SplitByCharacterClass {
+        text: sentence,
+        pos: at,
+    };
+    splitter.has_next()
+}
+
+// Where that splitter stands, once it is moved behind the run that starts at the position.
+pub fn advance(sentence: &[u8], at: usize, end: usize) -> usize
+    ensures { λ r. ⌜ r ≡ end ⌝ }
+{
+    let splitter = SplitByCharacterClass {
+        text: sentence,
+        pos: at,
+    };
+    splitter.moved(end).position()
 }
