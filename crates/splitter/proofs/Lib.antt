@@ -5,4 +5,5 @@ pub mod Recordings
 pub mod Sentences
 pub mod OneKind
 pub mod Turns
+pub mod Through
 pub mod Held

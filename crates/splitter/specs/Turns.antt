@@ -51,3 +51,10 @@ BlocksInTurn =
     → charsOf (now text) ≡ some cs
     → InTurn class (begun text) bs
     → bs ≡ blocksOf (classOf class) cs
+
+-- and every text that is well formed has such turns
+abbrev pub EveryTextInTurn : Type 0
+EveryTextInTurn =
+    (class : CharacterClass) (text : RefT (List ℕ)) (cs : List ℕ)
+    → charsOf (now text) ≡ some cs
+    → InTurn class (begun text) (blocksOf (classOf class) cs)

@@ -5,7 +5,7 @@
 //! records the run's characters and where each of them starts, so that no later pass over the run decodes it again.
 //!
 //! A loop over a sentence's blocks keeps the position alone: `start`, `has_next` and `advance` make the splitter of it, and
-//! answer what it says. That the runs in turn are all blocks of the sentence is the claim `BlocksInTurn`.
+//! answer what it says. That the runs in turn are the sentence's blocks is the claim `BlocksInTurn`.
 ghost use mathlib.Core.Path.{_≡_};
 ghost use mathlib.Core.Option.{IsSome};
 ghost use Prim.Native.Nat.{_≤_, _<_};
@@ -33,7 +33,7 @@ pub struct Run {
     pub end: usize,
 }
 
-// A text, and how far it has been split.
+// A text, and how far it has been split. The class, which the Rust keeps beside them, is a parameter of `next_recording`.
 pub struct SplitByCharacterClass<'t> {
     pub text: &'t [u8],
     pub pos: usize,
