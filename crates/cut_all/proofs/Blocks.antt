@@ -50,11 +50,13 @@ pub record Cutting (rootChildren : List ℕ) (rootWords : List ℤ) (keys childr
       → cutBlocks (cutAllBlock (vocabularyOf b)) (baseAt base at) (blocksOf cutAllClass (textFrom s at)) (written count tokens)
       ≡ cutBlocks (cutAllBlock (vocabularyOf b)) start (blocksOf cutAllClass (textFrom s 0)) (written 0 tokens₀)
 
--- before the first block
-pub begins : (rootChildren : List ℕ) (rootWords : List ℤ) (keys children : List ℕ) (words : List ℤ) (used : ℕ) (s chars offsets tokens : List ℕ)
+-- before the first block, where the splitter starts
+pub begins : (rootChildren : List ℕ) (rootWords : List ℤ) (keys children : List ℕ) (words : List ℤ) (used : ℕ) (s chars offsets tokens : List ℕ) (at : ℕ)
     → IsSome (charsOf s)
-    → Cutting rootChildren rootWords keys children words used s chars offsets tokens chars offsets tokens 0 0 0
-begins rootChildren rootWords keys children words used s chars offsets tokens some-chars =
+    → at ≡ 0
+    → Cutting rootChildren rootWords keys children words used s chars offsets tokens chars offsets tokens at 0 0
+begins rootChildren rootWords keys children words used s chars offsets tokens at some-chars starts =
+    rw starts
     record {
       inside = omega arith;
       well-formed = chars-start s some-chars;
@@ -145,12 +147,15 @@ module _ {rootChildren : List ℕ} {rootWords : List ℤ} {keys children : List 
           block-stops cutAllClass s at r chars′ offsets′ (of-cut-all s at r chars′ offsets′ run) (cutAllBlock (vocabularyOf b)) base (written count tokens) (cutAnswer cut after) (block .same b seen) other
           ∙ here .same b seen
 
-      -- its tokens are written
-      pub goes-behind : isDone (cut .outcome) ≡ true
+      -- its tokens are written, and the splitter is moved behind it
+      pub goes-behind : {at′ : ℕ}
+          → isDone (cut .outcome) ≡ true
           → length chars′ ≡ length chars
           → length offsets′ ≡ length offsets
-          → Cutting rootChildren rootWords keys children words used s chars₀ offsets₀ tokens₀ chars′ offsets′ after (r .end) (base + r .chars) (cut .count)
-      goes-behind done kept-chars kept-offsets =
+          → at′ ≡ r .end
+          → Cutting rootChildren rootWords keys children words used s chars₀ offsets₀ tokens₀ chars′ offsets′ after at′ (base + r .chars) (cut .count)
+      goes-behind done kept-chars kept-offsets moved =
+          rw moved
           record {
             inside = run .inside;
             well-formed = run .well-formed;

@@ -177,10 +177,10 @@ fn cut_all_blocks(
     ensures { λ r. ⌜ ((b : Book) → SeenAs b (trieLent «root_children» «root_words» keys children words) used
         → cutAnswer r (became tokens) ≡ cutBlocks (cutAllBlock (vocabularyOf b)) start (blocksOf cutAllClass (textFrom (was sentence) 0)) (written 0 (was tokens))) ⌝ }
 {
-    let mut at: usize = 0;
+    let mut at = splitter::start(sentence);
     let mut base: u32 = 0;
     let mut count: usize = 0;
-    while at < sentence.len() {
+    while splitter::has_next(sentence, at) {
         let run = splitter::next_recording(sentence, at, CharacterClass::CutAll, chars, offsets);
         let n = run.chars;
         let cut = if run.matched {
@@ -208,7 +208,7 @@ fn cut_all_blocks(
             return Cut { outcome, count };
         }
         base += n as u32;
-        at = run.end;
+        at = splitter::advance(sentence, at, run.end);
     }
     Cut {
         outcome: Outcome::Done,

@@ -56,11 +56,11 @@ pub record Cutting (trie : CharTrie) (logarithms : List Float) (plan : Plan) (ro
       → cutBlocks (blockBy (plan .mode) (vocabularyOf b) room) (baseAt base at) (blocksOf cutClass (textFrom sentence at)) (written count tokens)
       ≡ cutBlocks (blockBy (plan .mode) (vocabularyOf b) room) start (blocksOf cutClass (textFrom sentence 0)) (written 0 tokens₀)
 
--- before the first block
-pub begins : (trie : CharTrie) (logarithms : List Float) (plan : Plan) (room : ℕ) (sentence tokens : List ℕ) → IsSome (charsOf sentence)
-    → Cutting trie logarithms plan room sentence tokens tokens 0 0 0
-begins trie logarithms plan room sentence tokens some-chars =
-    record { inside = omega arith; well-formed = well-formed-start sentence some-chars; counted = omega arith; same = λ b planned. refl }
+-- before the first block, where the splitter starts
+pub begins : (trie : CharTrie) (logarithms : List Float) (plan : Plan) (room : ℕ) (sentence tokens : List ℕ) (at : ℕ) → IsSome (charsOf sentence) → at ≡ 0
+    → Cutting trie logarithms plan room sentence tokens tokens at 0 0
+begins trie logarithms plan room sentence tokens at some-chars starts =
+    rw starts record { inside = omega arith; well-formed = well-formed-start sentence some-chars; counted = omega arith; same = λ b planned. refl }
 
 -- the class by which `cut` splits
 of-cut : (s : List ℕ) (at : ℕ) (r : Run) (chars offsets : List ℕ) → Recorded (classOf Default) s at r chars offsets → Recorded cutClass s at r chars offsets
@@ -105,9 +105,10 @@ module _ {trie : CharTrie} {logarithms : List Float} {plan : Plan} {room : ℕ} 
           block-stops cutClass sentence at r chars offsets (of-cut sentence at r chars offsets run) (blockBy (plan .mode) (vocabularyOf b) room) base (written count tokens) (cutAnswer cut after) (block-here b planned) other
           ∙ here .same b planned
 
-      -- and its tokens are written
-      pub goes-behind : isDone (cut .outcome) ≡ true → Cutting trie logarithms plan room sentence tokens₀ after (r .end) (base + r .chars) (cut .count)
-      goes-behind done =
+      -- and its tokens are written, and the splitter is moved behind it
+      pub goes-behind : {at′ : ℕ} → isDone (cut .outcome) ≡ true → at′ ≡ r .end → Cutting trie logarithms plan room sentence tokens₀ after at′ (base + r .chars) (cut .count)
+      goes-behind done moved =
+          rw moved
           record {
             inside = run .inside;
             well-formed = run .well-formed;

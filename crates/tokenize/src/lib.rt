@@ -61,10 +61,10 @@ fn cut_blocks(
     ensures { λ r. ⌜ ((b : Book) → Planned b (trieLent «root_children» «root_words» keys children words) (was logarithms) plan
         → cutAnswer r (became tokens) ≡ cutBlocks (blockBy (plan .mode) (vocabularyOf b) room) start (blocksOf cutClass (textFrom (was sentence) 0)) (written 0 (was tokens))) ⌝ }
 {
-    let mut at: usize = 0;
+    let mut at = splitter::start(sentence);
     let mut base: u32 = 0;
     let mut count: usize = 0;
-    while at < sentence.len() {
+    while splitter::has_next(sentence, at) {
         let run = splitter::next_recording(sentence, at, CharacterClass::Default, chars, offsets);
         let cut = block::cut_block(
             root_children,
@@ -94,7 +94,7 @@ fn cut_blocks(
             return Cut { outcome, count };
         }
         base += run.chars as u32;
-        at = run.end;
+        at = splitter::advance(sentence, at, run.end);
     }
     Cut {
         outcome: Outcome::Done,

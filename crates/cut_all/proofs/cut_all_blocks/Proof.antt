@@ -1,13 +1,14 @@
 -- `cut_all::cut_all_blocks` meets its contract. The loop's invariant is `Cutting`, and the measure is the number of bytes left. A turn and each return is a law
--- of `Blocks`, over what `next_recording` ensures, and then `cut_all_tokens` or `cut_all_unmatched`.
+-- of `Blocks`, over what `next_recording` ensures, and then `cut_all_tokens` or `cut_all_unmatched`; where the loop stands is what the splitter's `start`,
+-- `has_next` and `advance` answer.
 -- Assumes nothing.
-use Prim.Native.Nat.{_-_}
+use Prim.Native.Nat.{_-_, _≤_, _<_}
 use mathlib.Core.Logic.{⊎-elim}
 use mathlib.Core.Path.{sym, _∙_}
 use native.Mathlib.Omega.{arith}
 use lib.ListN.{length, take}
 use borrow.Author.Needs.{needs}
-use borrow.Author.Tests.{not-true, not-false}
+use borrow.Author.Tests.{ltb-true, ltb-false, not-true, not-false}
 use Rattle.cut_all.proofs.Blocks.{Cutting, BlockCut, begins, room-chars, room-offsets, run-in-offsets, run-in-text, matched-cut, unmatched-cut, as-answered, ends-here, ends-stopped, goes-behind}
 use Rattle.cut_all.proofs.cut_all_blocks.Statement.{statement}
 use Rattle.cut_all.proofs.cut_all_blocks.Tie as tie
@@ -22,40 +23,53 @@ abbrev μ-loop : tie.MeasureT-loop
 
 -- the function's entry, from the loop's head
 abbrev start : tie.At-loop Inv-loop μ-loop → tie.Start Inv-loop μ-loop
-start c = c .before .before .before .before .before .before .before .before
+start c = c .before .before .before .before .before .before .before .before .before
 
 -- the loop's head, from the run
 abbrev head : tie.After-next-recording Inv-loop μ-loop → tie.At-loop Inv-loop μ-loop
-head c = c .before .before .before .before
+head c = c .before .before .before .before .before
 
 -- the run, from where its block is cut
-abbrev run : tie.Joined1 Inv-loop μ-loop → tie.After-next-recording Inv-loop μ-loop
+abbrev run : tie.Joined2 Inv-loop μ-loop → tie.After-next-recording Inv-loop μ-loop
 run c = c .before .before .before .before .before
 
 -- the block that is cut, of the class or not
-block : (c : tie.Joined1 Inv-loop μ-loop)
+block : (c : tie.Joined2 Inv-loop μ-loop)
     → let at = head (run c) in
     let args = start at .args in
     let r = run c .next-recording .result in
     BlockCut (args .root-children .now) (args .root-words .now) (args .keys .now) (args .children .now) (args .words .now) (args .used)
-    (at .loop .base) (at .loop .at) (r .matched) (take (r .chars) (run c .next-recording .last .1 .1 .1 .0)) (at .loop .tokens) (at .loop .count) (c .if1 .cut) (c .if1 .tokens)
+    (at .loop .base) (at .loop .at) (r .matched) (take (r .chars) (run c .next-recording .last .1 .1 .1 .0)) (at .loop .tokens) (at .loop .count) (c .if2 .cut) (c .if2 .tokens)
 block c =
     let at = head (run c) in
     ⊎-elim
     (λ w. as-answered (w .7) (w .8) (matched-cut (at .loop .inv) (run c .next-recording .ensures) (w .0 .taken) (w .4 .kept .1 .1 .1 .1 .1 .1 .1 .1 .1 .1 .1 .0) (w .4 .ensures)))
     (λ w. as-answered (w .7) (w .8) (unmatched-cut (at .loop .inv) (run c .next-recording .ensures) (w .0 .left) (w .4 .kept .1 .1 .1 .1 .0) (w .4 .ensures)))
-    (c .if1 .came)
+    (c .if2 .came)
+
+-- where the splitter has no run left the sentence ends, and where it has one it goes on
+behind-end : (c : tie.Else1 Inv-loop μ-loop) → let at = c .before .before in length (start at .args .sentence .now) ≤ at .loop .at
+behind-end c = ltb-false _ _ (sym (c .before .has-next .ensures) ∙ c .if1 .left)
+
+before-end : (c : tie.Then1 Inv-loop μ-loop) → let at = c .before .before in at .loop .at < length (start at .args .sentence .now)
+before-end c = ltb-true _ _ (sym (c .before .has-next .ensures) ∙ c .if1 .taken)
+
+start-requires : tie.Need-start-requires Inv-loop μ-loop
+start-requires c κs = search needs
 
 loop-holds : tie.Need-loop-holds Inv-loop μ-loop
 loop-holds c =
-    begins _ _ _ _ _ _ _ _ _ _ (c .before .before .before .before .before .before .before .pre .1 .1 .0 .1)
+    begins _ _ _ _ _ _ _ _ _ _ _ (c .before .before .before .before .before .before .before .before .pre .1 .1 .0 .1) (c .start .ensures)
+
+has-next-requires : tie.Need-has-next-requires Inv-loop μ-loop
+has-next-requires c κs = search needs
 
 next-recording-requires : tie.Need-next-recording-requires Inv-loop μ-loop
 next-recording-requires c κs =
-    let loop = c .before .before .before in
+    let loop = c .before .before .before .before in
     let entry = start loop in
     let room = entry .pre .1 .1 .1 in (
-      (omega (arith, c .before .before .loop-test), entry .pre .1 .1 .0 .0, loop .loop .inv .well-formed),
+      (before-end (c .before .before), entry .pre .1 .1 .0 .0, loop .loop .inv .well-formed),
       (room-chars (loop .loop .inv) (room .0), room-offsets (loop .loop .inv) (room .1)),
     )
 
@@ -110,7 +124,7 @@ returns : tie.Need-returns Inv-loop μ-loop
 returns c =
     let cut = c .before .before in
     let run = run cut in
-    ends-stopped (head run .loop .inv) (run .next-recording .ensures) (block cut) (sym (c .before .is-done .ensures) ∙ not-true _ (c .if2 .taken))
+    ends-stopped (head run .loop .inv) (run .next-recording .ensures) (block cut) (sym (c .before .is-done .ensures) ∙ not-true _ (c .if3 .taken))
 
 cast-base : tie.Need-cast-base Inv-loop μ-loop
 cast-base c =
@@ -122,17 +136,20 @@ add-base c =
     let run = run (c .before .before) in
     omega (arith, run-in-text (head run .loop .inv) (run .next-recording .ensures) (start (head run) .pre .1 .1 .0 .0))
 
+advance-requires : tie.Need-advance-requires Inv-loop μ-loop
+advance-requires c κs = search needs
+
 loop-less : tie.Need-loop-less Inv-loop μ-loop
 loop-less c =
-    let run = run (c .before .before) in
-    omega (arith, run .next-recording .ensures .forward, run .before .before .before .loop-test .taken)
+    let run = run (c .before .before .before) in
+    omega (arith, c .advance .ensures, run .next-recording .ensures .forward, before-end (run .before .before .before))
 
 loop-again : tie.Need-loop-again Inv-loop μ-loop
 loop-again c =
-    let cut = c .before .before in
+    let cut = c .before .before .before in
     let run = run cut in
-    goes-behind (head run .loop .inv) (run .next-recording .ensures) (block cut) (sym (c .before .is-done .ensures) ∙ not-false _ (c .if2 .left))
-    (run .next-recording .kept .1 .1 .1 .0) (run .next-recording .kept .1 .1 .1 .1 .0)
+    goes-behind (head run .loop .inv) (run .next-recording .ensures) (block cut) (sym (c .before .before .is-done .ensures) ∙ not-false _ (c .before .if3 .left))
+    (run .next-recording .kept .1 .1 .1 .0) (run .next-recording .kept .1 .1 .1 .1 .0) (c .advance .ensures)
 
 same-length-4 : tie.Need-same-length-4 Inv-loop μ-loop
 same-length-4 c = search
@@ -145,7 +162,7 @@ same-length-6 c = search
 
 returns-2 : tie.Need-returns-2 Inv-loop μ-loop
 returns-2 c =
-    ends-here (c .before .loop .inv) (c .loop-test .left)
+    ends-here (c .before .before .loop .inv) (behind-end c)
 
 pub cut-all-blocks-spec : {M : Type 1} → statement M
 cut-all-blocks-spec =
@@ -153,7 +170,9 @@ cut-all-blocks-spec =
     (tie.spec
     Inv-loop
     μ-loop
+    start-requires
     loop-holds
+    has-next-requires
     next-recording-requires
     cut-all-tokens-requires
     cut-all-unmatched-requires
@@ -164,6 +183,7 @@ cut-all-blocks-spec =
     returns
     cast-base
     add-base
+    advance-requires
     loop-less
     loop-again
     same-length-4
