@@ -2,7 +2,7 @@
 //!
 //!     compare                          made-up books and sentences
 //!     compare --dict FILE --text FILE  the same, then a real dictionary and a real text
-//!     compare --sample FOLDER          writes the list that the program `replay` replays, FOLDER/stdin, and the answers, FOLDER/stdout
+//!     compare --sample FOLDER          writes a sample for the program `cutlines`, FOLDER/stdin, and its answers, FOLDER/stdout
 //!
 //! The Rust that is compared has document 01's logarithm L in place of `ln` (jieba_l). The Rust as it is (jieba_ln) is only asked
 //! which sentences it cuts otherwise. Every made-up book and sentence comes from one fixed seed. The program ends with 1 if there
@@ -97,13 +97,14 @@ rust_side!(with_ln, jieba_ln);
 // ---- books
 
 /// A call that enters words. Only calls that both sides accept are made.
+#[derive(Clone)]
 enum Call {
     Load(String),
     Add(String, u64),
 }
 
 /// A made-up book: its calls, and what they leave.
-#[derive(Default)]
+#[derive(Clone, Default)]
 struct Plan {
     name: String,
     calls: Vec<Call>,
@@ -551,10 +552,16 @@ fn frequency_by_chance(random: &mut Random) -> u64 {
     }
 }
 
-/// A book by chance, of one of seven kinds.
+/// A book by chance.
 fn plan_by_chance(random: &mut Random, number: usize, words: usize) -> (Plan, Vec<char>) {
-    let kind = number % 7;
     let mut plan = Plan::new(format!("{number} by chance"));
+    let characters = grow_by_chance(&mut plan, random, number, words);
+    (plan, characters)
+}
+
+/// Calls by chance, of one of seven kinds, and the characters of their words.
+fn grow_by_chance(plan: &mut Plan, random: &mut Random, number: usize, words: usize) -> Vec<char> {
+    let kind = number % 7;
     let letters = if words > 100 { 400 } else { [8, 3, 4, 4, 20, 6, 5][kind] };
     let characters: Vec<char> =
         (0..letters).map(|_| if kind == 0 { boundary(random) } else { any_character(random) }).collect();
@@ -597,7 +604,7 @@ fn plan_by_chance(random: &mut Random, number: usize, words: usize) -> (Plan, Ve
         5 => plan.add("丙丁", GREATEST),
         _ => {}
     }
-    (plan, characters)
+    characters
 }
 
 fn sentence_by_chance(random: &mut Random, held: &[&str], characters: &[char], pieces: usize) -> String {
@@ -745,18 +752,27 @@ fn hexadecimal(bytes: &[u8]) -> String {
     bytes.iter().map(|byte| format!("{byte:02x}")).collect()
 }
 
-/// The list that the program `replay` replays, and the lines that must answer its frames.
+/// The line that ends the sample in `stdin`; what follows it there and in `stdout` is kept.
+const OUR_OWN: &str = "# frames of our own";
+
+/// Lines for the program `cutlines`, and the lines that must answer them: one growing book, in a plan and in the Rust.
 struct Sample {
     list: String,
     answers: String,
+    plan: Plan,
+    rust: with_l::Rust,
+    random: Random,
 }
 
 impl Sample {
-    fn line(&mut self, line: &str) {
+    /// A line that is no frame.
+    fn comment(&mut self, line: &str) {
+        assert!(line.starts_with('#'));
         writeln!(self.list, "{line}").unwrap();
+        writeln!(self.answers, "fe").unwrap();
     }
 
-    /// A frame of document 01's `cutlines`, and the answer to it: the number 0, a count and the tokens' numbers.
+    /// A frame, and the answer to it: the number 0, a count and the tokens' numbers.
     fn frame(&mut self, kind: u8, text: &str, count: usize, tokens: &[u32]) {
         assert!(text.len() <= 1024 && count <= 1024 && tokens.len() <= 4 * 512, "a frame that `cutlines` cannot answer");
         let numbers: String = tokens.iter().map(|n| format!("{n:04x}")).collect();
@@ -764,85 +780,167 @@ impl Sample {
         writeln!(self.answers, "00{count:04x}{numbers}").unwrap();
     }
 
-    fn cut(&mut self, kind: u8, sentence: &str, tokens: &[u32]) {
-        self.frame(kind, sentence, tokens.len() / 4, tokens);
-    }
-}
-
-fn sample_books(random: &mut Random) -> Vec<Plan> {
-    let mut books = short_books();
-    books.retain(|plan| plan.held.len() < 100 && plan.calls.iter().all(|call| matches!(call, Call::Load(_))));
-    let mut example = |entries: &[(&str, u64)]| {
-        let mut plan = Plan::new("of an example".to_string());
-        plan.load(entries);
-        books.push(plan);
-    };
-    example(&[("甲", 16), ("乙", 16), ("甲乙", 4), ("丙", 28)]);
-    example(&[("甲", 16), ("乙", 16), ("甲乙", 3), ("丙", 29)]);
-    example(&[("甲", 0), ("甲乙", 0)]);
-    example(&[("甲", 0), ("甲乙", 0), ("丙", 1)]);
-    example(&[("WES", 1), ("WES-5.4.5", 1)]);
-    let mut number = 0;
-    while books.len() < 18 {
-        let (plan, _) = plan_by_chance(random, number, 10);
-        number += 1;
-        if plan.held.len() >= 4 && plan.calls.iter().all(|call| matches!(call, Call::Load(text) if text.len() < 1024)) {
-            books.push(plan);
+    fn cuts(&mut self, sentence: &str) {
+        for (kind, tokens) in
+            [(2, self.rust.cut(sentence)), (3, self.rust.cut_all(sentence)), (4, self.rust.cut_for_search(sentence))]
+        {
+            self.frame(kind, sentence, tokens.len() / 4, &tokens);
         }
     }
-    books
+
+    /// Sentences of document 01, and three by chance: of the words that came last, and of all.
+    fn sentences(&mut self, last: &[&str]) {
+        for sentence in ["", "打开灯", "打开客厅灯", "甲乙", "WES-5.4.5", "ab-1\r\n!"] {
+            self.cuts(sentence);
+        }
+        let all: Vec<String> = self.plan.held.keys().cloned().collect();
+        let all: Vec<&str> = all.iter().map(String::as_str).collect();
+        for words in [last, last, &all] {
+            if words.is_empty() {
+                continue;
+            }
+            let characters: Vec<char> = words.iter().flat_map(|word| word.chars()).collect();
+            let sentence = sentence_by_chance(&mut self.random, words, &characters, 10);
+            self.cuts(&sentence);
+        }
+    }
+
+    /// The Rust takes the plan's calls since the last time, which are loads, and cuts sentences after each.
+    fn take_calls(&mut self) {
+        for call in std::mem::take(&mut self.plan.calls) {
+            let Call::Load(text) = call else { unreachable!("`cutlines` has no additions") };
+            self.rust.load(&text);
+            self.frame(1, &text, text.split_inclusive('\n').count(), &[]);
+            let words: Vec<&str> = text.split('\n').filter_map(|line| line.split_whitespace().next()).collect();
+            self.sentences(&words);
+        }
+        assert_eq!(self.rust.records_and_total(), (self.plan.held.len() as u64, self.plan.total));
+    }
+
+    fn load(&mut self, entries: &[(&str, u64)]) {
+        self.plan.load(entries);
+        assert!(entries.iter().all(|&(word, frequency)| self.plan.held[word] == frequency), "the total has no room");
+        self.take_calls();
+    }
+
+    /// The loads of plain lines that a plan has.
+    fn load_again(&mut self, plan: &Plan) {
+        for call in &plan.calls {
+            if let Call::Load(text) = call {
+                let entries = text.lines().map(|line| line.split_once(' ').unwrap());
+                self.load(&entries.map(|(word, frequency)| (word, frequency.parse().unwrap())).collect::<Vec<_>>());
+            }
+        }
+    }
+
+    /// Every held word above a frequency gets a small one.
+    fn lower(&mut self, above: u64, step: u64) {
+        let large = self.plan.held.iter().filter(|&(_, &frequency)| frequency > above);
+        let entries: Vec<(String, u64)> = large.zip(0..).map(|((word, _), i)| (word.clone(), i * step)).collect();
+        if !entries.is_empty() {
+            self.load(&entries.iter().map(|(word, frequency)| (word.as_str(), *frequency)).collect::<Vec<_>>());
+        }
+    }
+
+    /// Every held word gets frequency 0.
+    fn clear(&mut self) {
+        self.lower(0, 0);
+        assert_eq!(self.plan.total, 0);
+    }
+
+    /// The slots that the held words take beside 256 root entries.
+    fn slots(&self) -> usize {
+        let mut steps = std::collections::BTreeSet::new();
+        for word in self.plan.held.keys() {
+            for (start, c) in word.char_indices() {
+                if start > 0 || u32::from(c) >= 256 {
+                    steps.insert(&word[..start + c.len_utf8()]);
+                }
+            }
+        }
+        steps.len()
+    }
 }
 
 fn sample_heading() -> String {
     format!(
         "\
-# Made by `oracle/compare FOLDER --sample` (seed {SEED}), and so is `stdout`; not edited by hand. `stdout` has a line for each
-# frame. A cut's is the answer of the Rust (jieba-rs, commit bac49e65b8, with document 01's logarithm L in place of ln, HMM
-# off). A load's says that the Rust accepted the text, and how many lines the text has. Nothing in either comes from the code
-# that is replayed.
-# `book` begins an empty book. Every other line is a frame of document 01's program `cutlines` (01 load, 02 cut, 03 cut_all,
-# 04 cut_for_search, then the text in hexadecimal). Every book and sentence is within the areas that `cutlines` lends. A
-# comment before the frames of a sentence shows the cut.
+# The lines down to \"{OUR_OWN}\" are made by `oracle/compare FOLDER --sample` (seed {SEED}), and so are the lines
+# that answer them in `stdout`; not edited by hand. The answers are the Rust's (jieba-rs, commit bac49e65b8, with document 01's
+# logarithm L in place of ln, HMM off); a load's says that the Rust accepted the text, and how many lines the text has.
 "
     )
 }
 
 fn sample() -> Sample {
-    let mut sample = Sample { list: sample_heading(), answers: String::new() };
-    let mut random = Random(SEED);
-    for plan in sample_books(&mut random) {
-        let rust = Comparison::rust_book(&plan);
-        sample.line("book");
-        sample.line(&format!("# {}", plan.name));
-        for call in &plan.calls {
-            if let Call::Load(text) = call {
-                sample.frame(1, text, text.split_inclusive('\n').count(), &[]);
-            }
-        }
-        let held: Vec<&str> = plan.held.keys().map(String::as_str).collect();
-        let mut sentences: Vec<String> =
-            ["", "打开灯", "打开客厅灯", "甲乙", "WES-5.4.5", "ab-1\r\n!"].map(String::from).to_vec();
-        if !held.is_empty() {
-            let characters: Vec<char> = plan.held.keys().flat_map(|word| word.chars()).collect();
-            sentences.extend((0..3).map(|_| sentence_by_chance(&mut random, &held, &characters, 10)));
-        }
-        for sentence in sentences {
-            let cut = rust.cut(&sentence);
-            let shown = if sentence.is_empty() { "the empty sentence".to_string() } else { readable(&sentence, &cut) };
-            sample.line(&format!("# {shown}"));
-            sample.cut(2, &sentence, &cut);
-            sample.cut(3, &sentence, &rust.cut_all(&sentence));
-            sample.cut(4, &sentence, &rust.cut_for_search(&sentence));
+    let mut sample = Sample {
+        list: String::new(),
+        answers: String::new(),
+        plan: Plan::new("the sample".to_string()),
+        rust: with_l::Rust::empty(),
+        random: Random(SEED),
+    };
+    for line in sample_heading().lines() {
+        sample.comment(line);
+    }
+
+    // Document 01's examples, each with the total that it has there: what is held from an earlier one gets frequency 0.
+    sample.sentences(&[]);
+    sample.load(&[("甲", 0), ("甲乙", 0)]);
+    sample.load(&[("丙", 1)]);
+    sample.load(&[("甲", 16), ("乙", 16), ("甲乙", 4), ("丙", 28)]);
+    sample.load(&[("甲乙", 3), ("丙", 29)]);
+    assert_eq!(sample.plan.total, 64);
+    sample.clear();
+    sample.load_again(&book_a());
+    assert_eq!(sample.plan.total, 1024);
+    sample.clear();
+    sample.load(&[("WES", 1), ("WES-5.4.5", 1)]);
+    assert_eq!(sample.plan.total, 2);
+
+    // The books of the short sentences, and eight by chance.
+    for plan in short_books() {
+        if plan.held.len() < 100 && plan.calls.iter().all(|call| matches!(call, Call::Load(_))) {
+            sample.load_again(&plan);
         }
     }
+    let mut number = 0;
+    let mut taken = 0;
+    while taken < 8 {
+        // The total has room for large frequencies again.
+        sample.lower(1_000_000, 10);
+        let mut plan = sample.plan.clone();
+        grow_by_chance(&mut plan, &mut sample.random, number, 10);
+        number += 1;
+        let can_be_loaded = |call: &Call| matches!(call, Call::Load(text) if text.len() <= 1024);
+        if plan.held.len() >= sample.plan.held.len() + 4 && plan.calls.iter().all(can_be_loaded) {
+            sample.plan = plan;
+            sample.take_calls();
+            taken += 1;
+        }
+    }
+    sample.comment(OUR_OWN);
+    let (records, slots) = (sample.plan.held.len(), sample.slots());
+    println!("sample: {} lines; {records} records, {slots} slots", sample.list.lines().count());
+    assert!(records <= 256 - 60 && slots <= 768 - 160, "no room for the frames of our own");
     sample
 }
 
-fn write(path: &str, text: &str) {
-    std::fs::write(path, text).unwrap_or_else(|error| {
-        eprintln!("compare: {path}: {error}");
-        exit(2)
-    });
+/// Writes the sample's lines, and keeps those after its last one.
+fn write_sample(folder: &str, sample: &Sample) {
+    let old = |name: &str| std::fs::read(format!("{folder}/{name}")).unwrap_or_default();
+    let (old_list, old_answers) = (old("stdin"), old("stdout"));
+    let lines = |text| <[u8]>::split_inclusive(text, |&byte| byte == b'\n').collect::<Vec<_>>();
+    let (old_list, old_answers): (Vec<&[u8]>, Vec<&[u8]>) = (lines(&old_list), lines(&old_answers));
+    let sampled = old_list.iter().position(|line| line.trim_ascii_end() == OUR_OWN.as_bytes()).map_or(old_list.len(), |i| i + 1);
+    for (name, new, old) in [("stdin", &sample.list, old_list), ("stdout", &sample.answers, old_answers)] {
+        let path = format!("{folder}/{name}");
+        let kept = old.get(sampled..).unwrap_or_default().concat();
+        std::fs::write(&path, [new.as_bytes(), &kept].concat()).unwrap_or_else(|error| {
+            eprintln!("compare: {path}: {error}");
+            exit(2)
+        });
+    }
 }
 
 // ---- the program
@@ -860,9 +958,7 @@ fn main() {
     let arguments: Vec<String> = std::env::args().skip(1).collect();
     let after = |name: &str| arguments.iter().position(|a| a == name).map(|i| arguments[i + 1].clone());
     if let Some(folder) = after("--sample") {
-        let sample = sample();
-        write(&format!("{folder}/stdin"), &sample.list);
-        write(&format!("{folder}/stdout"), &sample.answers);
+        write_sample(&folder, &sample());
         return;
     }
     let mut otherwise = Otherwise { asked: 0, cut_otherwise: 0, list: Box::new(std::io::sink()), named: String::new() };

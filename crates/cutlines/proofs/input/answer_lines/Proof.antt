@@ -1,0 +1,173 @@
+-- `cutlines::input::answer_lines` is safe and ends: the areas keep their lengths, an answer is written where the longest fits, and the measure is what is
+-- left of the input. Assumes nothing.
+use Prim.Native.Nat.{_-_, _≤_}
+use mathlib.Core.Path.{_≡_, _∙_}
+use native.Mathlib.Omega.{arith}
+use lib.ListN.{length, length-take}
+use borrow.Author.Needs.{needs}
+use Rattle.frames.specs.Input.{mostKept}
+use Rattle.cutlines.proofs.input.answer_lines.Statement.{statement}
+use Rattle.cutlines.proofs.input.answer_lines.Tie as tie
+
+abbrev Inv-loop : tie.InvT-loop
+Inv-loop root-children₀ root-words₀ keys₀ children₀ words₀ frequencies₀ logarithms₀ input line₀ had out₀ end₀ head₀ kept₀ at₀ root-children root-words keys children words frequencies logarithms line out end head kept at =
+    (length root-children ≡ length root-children₀) × (length root-words ≡ length root-words₀) × (length keys ≡ length keys₀) × (length children ≡ length children₀) × (length words ≡ length words₀) × (length frequencies ≡ length frequencies₀) × (length logarithms ≡ length logarithms₀) × (length line ≡ length line₀)
+    × (length out ≡ 65536) × (end ≤ 65536) × (kept ≤ mostKept)
+
+abbrev μ-loop : tie.MeasureT-loop
+μ-loop root-children₀ root-words₀ keys₀ children₀ words₀ frequencies₀ logarithms₀ input line₀ had out₀ end₀ head₀ kept₀ at₀ root-children root-words keys children words frequencies logarithms line out end head kept at = length input - at
+
+loop-holds : tie.Need-loop-holds Inv-loop μ-loop
+loop-holds c = search needs
+
+take-line-requires : tie.Need-take-line-requires Inv-loop μ-loop
+take-line-requires c κs = search needs
+
+slice-aggregate-next-place : tie.Need-slice-aggregate-next-place Inv-loop μ-loop
+slice-aggregate-next-place c = search needs
+
+next-place-requires : tie.Need-next-place-requires Inv-loop μ-loop
+next-place-requires c κs = search needs
+
+same-length : tie.Need-same-length Inv-loop μ-loop
+same-length c = search needs
+
+same-length-2 : tie.Need-same-length-2 Inv-loop μ-loop
+same-length-2 c = search needs
+
+same-length-3 : tie.Need-same-length-3 Inv-loop μ-loop
+same-length-3 c = search needs
+
+same-length-4 : tie.Need-same-length-4 Inv-loop μ-loop
+same-length-4 c = search needs
+
+same-length-5 : tie.Need-same-length-5 Inv-loop μ-loop
+same-length-5 c = search needs
+
+same-length-6 : tie.Need-same-length-6 Inv-loop μ-loop
+same-length-6 c = search needs
+
+same-length-7 : tie.Need-same-length-7 Inv-loop μ-loop
+same-length-7 c = search needs
+
+same-length-8 : tie.Need-same-length-8 Inv-loop μ-loop
+same-length-8 c = search needs
+
+returns : tie.Need-returns Inv-loop μ-loop
+returns c = search needs
+
+slice-reshare-prefix-answer-line : tie.Need-slice-reshare-prefix-answer-line Inv-loop μ-loop
+slice-reshare-prefix-answer-line c = search needs
+
+slice-aggregate-answer-line : tie.Need-slice-aggregate-answer-line Inv-loop μ-loop
+slice-aggregate-answer-line c =
+    let take = c .before .before .before .before .before .before .before .before .before .before .before .before .before .before .before in
+    simp length-take (omega (arith, take .take-line .ensures .1, take .take-line .kept .1 .1 .0, take .before .before .before .loop .inv .7))
+
+slice-aggregate-answer-line-2 : tie.Need-slice-aggregate-answer-line-2 Inv-loop μ-loop
+slice-aggregate-answer-line-2 c = search needs
+
+answer-line-requires : tie.Need-answer-line-requires Inv-loop μ-loop
+answer-line-requires c κs = search needs
+
+loop-less : tie.Need-loop-less Inv-loop μ-loop
+loop-less c =
+    let take = c .before .before .before .before .before .before .before .before .before .before .before .before .before .before .before .before .before .before .before .before .before .before .before .before .before .before .before .before .before .before .before in
+    omega (arith, take .take-line .ensures .1, take .before .before .loop-test .taken)
+
+loop-again : tie.Need-loop-again Inv-loop μ-loop
+loop-again c =
+    let answer = c .before .before .before .before .before .before .before .before .before .before .before .before .before .before in
+    let next = answer .before .before .before .before .before .before .before .before .before .before .before .before in
+    let take = next .before .before .before .before .before in
+    let at = take .before .before .before in (
+      answer .answer-line .kept .1 .0 ∙ at .loop .inv .0,
+      answer .answer-line .kept .1 .1 .0 ∙ at .loop .inv .1,
+      answer .answer-line .kept .1 .1 .1 .0 ∙ at .loop .inv .2,
+      answer .answer-line .kept .1 .1 .1 .1 .0 ∙ at .loop .inv .3,
+      answer .answer-line .kept .1 .1 .1 .1 .1 .0 ∙ at .loop .inv .4,
+      answer .answer-line .kept .1 .1 .1 .1 .1 .1 .0 ∙ at .loop .inv .5,
+      answer .answer-line .kept .1 .1 .1 .1 .1 .1 .1 .0 ∙ at .loop .inv .6,
+      take .take-line .kept .1 .1 .0 ∙ at .loop .inv .7,
+      answer .answer-line .kept .1 .1 .1 .1 .1 .1 .1 .1 .1 .0 ∙ at .loop .inv .8,
+      omega (arith, answer .answer-line .ensures .1, next .next-place .ensures, at .loop .inv .8),
+      omega arith,
+    )
+
+loop-less-2 : tie.Need-loop-less-2 Inv-loop μ-loop
+loop-less-2 c = search needs
+
+loop-again-2 : tie.Need-loop-again-2 Inv-loop μ-loop
+loop-again-2 c = search needs
+
+slice-aggregate-write-answers : tie.Need-slice-aggregate-write-answers Inv-loop μ-loop
+slice-aggregate-write-answers c = search needs
+
+write-answers-requires : tie.Need-write-answers-requires Inv-loop μ-loop
+write-answers-requires c κs = search needs
+
+same-length-9 : tie.Need-same-length-9 Inv-loop μ-loop
+same-length-9 c = search needs
+
+same-length-10 : tie.Need-same-length-10 Inv-loop μ-loop
+same-length-10 c = search needs
+
+same-length-11 : tie.Need-same-length-11 Inv-loop μ-loop
+same-length-11 c = search needs
+
+same-length-12 : tie.Need-same-length-12 Inv-loop μ-loop
+same-length-12 c = search needs
+
+same-length-13 : tie.Need-same-length-13 Inv-loop μ-loop
+same-length-13 c = search needs
+
+same-length-14 : tie.Need-same-length-14 Inv-loop μ-loop
+same-length-14 c = search needs
+
+same-length-15 : tie.Need-same-length-15 Inv-loop μ-loop
+same-length-15 c = search needs
+
+same-length-16 : tie.Need-same-length-16 Inv-loop μ-loop
+same-length-16 c = search needs
+
+returns-2 : tie.Need-returns-2 Inv-loop μ-loop
+returns-2 c = search needs
+
+pub answer-lines-spec : {M : Type 1} → statement M
+answer-lines-spec =
+    tie.close
+    (tie.spec
+    Inv-loop
+    μ-loop
+    loop-holds
+    take-line-requires
+    slice-aggregate-next-place
+    next-place-requires
+    same-length
+    same-length-2
+    same-length-3
+    same-length-4
+    same-length-5
+    same-length-6
+    same-length-7
+    same-length-8
+    returns
+    slice-reshare-prefix-answer-line
+    slice-aggregate-answer-line
+    slice-aggregate-answer-line-2
+    answer-line-requires
+    loop-less
+    loop-again
+    loop-less-2
+    loop-again-2
+    slice-aggregate-write-answers
+    write-answers-requires
+    same-length-9
+    same-length-10
+    same-length-11
+    same-length-12
+    same-length-13
+    same-length-14
+    same-length-15
+    same-length-16
+    returns-2)

@@ -1,0 +1,42 @@
+//! The program `cutlines` (document 01, "Examples by book"): reads frames from standard input, one a line, and prints for each
+//! the line that answers it.
+//!
+//! What is proved elsewhere: how the input is split into lines (`frames::take_line`), and what is answered to a line, byte for
+//! byte, with the book that is left (`answers::answer_line`). Here the input is read and the answers are written, in blocks;
+//! that this part is safe, and that each of its steps ends, is what is proved of it. Before more input is waited for, every
+//! answer is written.
+mod input;
+
+use book::Prepared;
+
+// One book for the whole run: 256 root entries, 1,024 slots and 256 records.
+fn main() {
+    let mut root_children = [0u32; 256];
+    let mut root_words = [0i32; 256];
+    let mut keys = [0u64; 1024];
+    let mut children = [0u32; 1024];
+    let mut words = [0i32; 1024];
+    let mut frequencies = [0u32; 256];
+    let mut logarithms = [0.0f64; 256];
+    let Prepared::Ready(head) = prepare::prepare(
+        &mut root_children,
+        &mut root_words,
+        &mut keys,
+        &mut children,
+        &mut words,
+        &mut frequencies,
+        &mut logarithms,
+    ) else {
+        return;
+    };
+    input::answer_all(
+        head,
+        &mut root_children,
+        &mut root_words,
+        &mut keys,
+        &mut children,
+        &mut words,
+        &mut frequencies,
+        &mut logarithms,
+    );
+}

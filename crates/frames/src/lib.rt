@@ -1,0 +1,259 @@
+//! The frames of the program `cutlines`, and the lines that answer them (document 01, "Program `cutlines`").
+//!
+//! A frame is a line of hexadecimal digits of either case, two for each byte: the kind, and at most 1,024 bytes of text. Its
+//! answer is a line of lowercase digits. Here both are slices of bytes; who reads and writes them, and what the calls answer,
+//! is for others.
+ghost use mathlib.Core.Path.{_≡_};
+ghost use Prim.Native.Nat.{_+_, _*_, _/_, _%_, _<_, _≤_};
+ghost use lib.ListN.{length, take, drop};
+ghost use lib.Seq.{sets};
+ghost use Rattle.frames.specs.Input.{mostKept, taken, lineFrom};
+ghost use Rattle.frames.specs.Frames.{valueOf, byteOf, bytesOf, decoded, kindOf, longest, frame, frameOf, digitOf, two, four, fours, lineOf, noFrameLine, Put};
+
+// The bytes of the longest frame, its kind with them.
+pub const LONGEST: usize = 1025;
+
+// The digits of the longest frame.
+const LONGEST_LINE: usize = 2050;
+
+// The bytes that are kept of a line: one more than the longest frame has digits, so that a longer line is seen to be none.
+pub const KEPT: usize = 2051;
+
+// The value of what is no digit.
+const NO_DIGIT: u32 = 16;
+
+// The byte of what is not two digits.
+const NO_BYTE: u32 = 256;
+
+// What is asked.
+pub enum Kind {
+    // 01
+    Load,
+    // 02
+    Cut,
+    // 03
+    CutAll,
+    // 04
+    CutForSearch,
+    // Every other line.
+    NoFrame,
+}
+
+// A frame: its kind, and how many bytes of text come after it.
+pub struct Frame {
+    pub kind: Kind,
+    pub text: usize,
+}
+
+// A line as far as it has come: how many bytes of it are kept, whether it is whole, and where the input goes on.
+pub struct Taken {
+    pub kept: usize,
+    pub whole: bool,
+    pub next: usize,
+}
+
+// Takes the input from a place on, up to an LF or to its end, and adds it to a line of which so many bytes are kept.
+pub fn take_line(input: &[u8], from: usize, line: &mut [u8], had: usize) -> Taken
+    requires { ⌜ (from < length (now input)) × (had ≤ mostKept) × (length (now line) ≡ mostKept) ⌝ }
+    ensures { λ r. ⌜ taken (take (r .kept) (now (line .exit))) (r .whole) (drop (r .next) (now (input .entry))) ≡ lineFrom (take had (now (line .entry))) (drop from (now (input .entry))) ⌝ }
+    ensures { λ r. ⌜ (r .kept ≤ mostKept) × (from < r .next) × (r .next ≤ length (now (input .entry))) ⌝ }
+{
+    let mut kept = had;
+    let mut at = from;
+    while at < input.len() {
+        let b = input[at];
+        if b == b'\n' {
+            return Taken {
+                kept,
+                whole: true,
+                next: at + 1,
+            };
+        }
+        if kept < KEPT {
+            line[kept] = b;
+            kept += 1;
+        }
+        at += 1;
+    }
+    Taken {
+        kept,
+        whole: false,
+        next: at,
+    }
+}
+
+// The value of a digit, and 16 for any other byte.
+fn value_of(b: u32) -> u32
+    ensures { λ r. ⌜ r ≡ valueOf b ⌝ }
+{
+    match b {
+        0x30..=0x39 => b - 0x30,
+        0x41..=0x46 => b - 0x41 + 10,
+        0x61..=0x66 => b - 0x61 + 10,
+        _ => NO_DIGIT,
+    }
+}
+
+// The byte of two digits.
+fn byte_of(high: u32, low: u32) -> u32
+    ensures { λ r. ⌜ r ≡ byteOf high low ⌝ }
+{
+    let h = value_of(high);
+    let l = value_of(low);
+    if NO_DIGIT <= h {
+        return NO_BYTE;
+    }
+    if NO_DIGIT <= l {
+        return NO_BYTE;
+    }
+    h * 16 + l
+}
+
+fn wide(b: u8) -> u32
+    ensures { λ r. ⌜ r ≡ b ⌝ }
+{
+    b as u32
+}
+
+// Writes the bytes of a line's digits, and answers whether it is digits.
+fn decode(line: &[u8], bytes: &mut [u8]) -> bool
+    requires { ⌜ (length (now line) % 2 ≡ 0) × (length (now line) / 2 ≤ length (now bytes)) ⌝ }
+    ensures { λ r. ⌜ decoded r (take (length (now (line .entry)) / 2) (now (bytes .exit))) ≡ bytesOf (now (line .entry)) ⌝ }
+{
+    let count = line.len() / 2;
+    let mut i: usize = 0;
+    while i < count {
+        let b = byte_of(wide(line[2 * i]), wide(line[2 * i + 1]));
+        if b == NO_BYTE {
+            return false;
+        }
+        bytes[i] = b as u8;
+        i += 1;
+    }
+    true
+}
+
+// The kind of a number.
+fn kind_of(b: u8) -> Kind
+    ensures { λ r. ⌜ r ≡ kindOf b ⌝ }
+{
+    match b {
+        1 => Kind::Load,
+        2 => Kind::Cut,
+        3 => Kind::CutAll,
+        4 => Kind::CutForSearch,
+        _ => Kind::NoFrame,
+    }
+}
+
+// What any other line is.
+fn no_frame() -> Frame
+    ensures { λ r. ⌜ (r .kind ≡ Kind.NoFrame) × (r .text ≡ 0) ⌝ }
+{
+    Frame {
+        kind: Kind::NoFrame,
+        text: 0,
+    }
+}
+
+// Reads a line without its end, and writes its bytes: the kind, and after it the text.
+pub fn read_frame(line: &[u8], bytes: &mut [u8]) -> Frame
+    requires { ⌜ length (now bytes) ≡ 1 + longest ⌝ }
+    ensures { λ r. ⌜ frame (r .kind) (take (r .text) (drop 1 (now (bytes .exit)))) ≡ frameOf (now (line .entry)) ⌝ }
+    ensures { λ r. ⌜ r .text ≤ longest ⌝ }
+{
+    let length = line.len();
+    if length < 2 {
+        return no_frame();
+    }
+    if LONGEST_LINE < length {
+        return no_frame();
+    }
+    if length % 2 != 0 {
+        return no_frame();
+    }
+    if !decode(line, bytes) {
+        return no_frame();
+    }
+    Frame {
+        kind: kind_of(bytes[0]),
+        text: length / 2 - 1,
+    }
+}
+
+// The digit of a value.
+fn digit_of(n: usize) -> u8
+    requires { ⌜ n < 16 ⌝ }
+    ensures { λ r. ⌜ r ≡ digitOf n ⌝ }
+{
+    if n < 10 {
+        return 0x30 + n as u8;
+    }
+    0x57 + n as u8
+}
+
+// Writes the last two digits of a number.
+fn put_two(n: usize, out: &mut [u8], at: usize)
+    requires { ⌜ at + 2 ≤ length (now out) ⌝ }
+    ensures { λ _. ⌜ now (out .exit) ≡ sets (now (out .entry)) at (two n) ⌝ }
+{
+    out[at] = digit_of(n / 16 % 16);
+    out[at + 1] = digit_of(n % 16);
+}
+
+// Writes the last four digits of a number.
+fn put_four(n: usize, out: &mut [u8], at: usize)
+    requires { ⌜ at + 4 ≤ length (now out) ⌝ }
+    ensures { λ _. ⌜ now (out .exit) ≡ sets (now (out .entry)) at (four n) ⌝ }
+{
+    out[at] = digit_of(n / 4096 % 16);
+    out[at + 1] = digit_of(n / 256 % 16);
+    out[at + 2] = digit_of(n / 16 % 16);
+    out[at + 3] = digit_of(n % 16);
+}
+
+fn number(n: u32) -> usize
+    ensures { λ r. ⌜ r ≡ n ⌝ }
+{
+    n as usize
+}
+
+// Writes four digits of each number, one after the other, and answers where they end.
+fn put_fours(numbers: &[u32], out: &mut [u8], from: usize) -> usize
+    requires { ⌜ from + 4 * length (now numbers) ≤ length (now out) ⌝ }
+    ensures { λ r. ⌜ Put (now (out .entry)) from (fours (now (numbers .entry))) (now (out .exit)) r ⌝ }
+{
+    let mut at = from;
+    let mut i: usize = 0;
+    while i < numbers.len() {
+        put_four(number(numbers[i]), out, at);
+        at += 4;
+        i += 1;
+    }
+    at
+}
+
+// Writes the line of an answer: the returned number, the line or token count, and the tokens' numbers.
+pub fn put_answer(returned: u32, count: usize, numbers: &[u32], out: &mut [u8], at: usize) -> usize
+    requires { ⌜ at + 7 + 4 * length (now numbers) ≤ length (now out) ⌝ }
+    ensures { λ r. ⌜ Put (now (out .entry)) at (lineOf returned count (now (numbers .entry))) (now (out .exit)) r ⌝ }
+    ensures { λ r. ⌜ r ≡ at + 7 + 4 * length (now (numbers .entry)) ⌝ }
+{
+    put_two(number(returned), out, at);
+    put_four(count, out, at + 2);
+    let end = put_fours(numbers, out, at + 6);
+    out[end] = b'\n';
+    end + 1
+}
+
+// Writes the line of what is no frame.
+pub fn put_no_frame(out: &mut [u8], at: usize) -> usize
+    requires { ⌜ at + 3 ≤ length (now out) ⌝ }
+    ensures { λ r. ⌜ Put (now (out .entry)) at noFrameLine (now (out .exit)) r ⌝ }
+    ensures { λ r. ⌜ r ≡ at + 3 ⌝ }
+{
+    out[at] = b'f';
+    out[at + 1] = b'e';
+    out[at + 2] = b'\n';
+    at + 3
+}
