@@ -1,20 +1,11 @@
 -- What the code's slices and values say in the terms of document 01's tokens, which `cuts/specs/Tokens.antt` has.
 -- Assumes nothing.
-use Prim.Native.Nat.{ℕ, _+_, _*_, _≤_, _<_}
+use Prim.Native.Nat.{ℕ, _≤_, _<_}
 use mathlib.Core.Bool.{Bool, true, false}
 use mathlib.Core.List.{List}
 use mathlib.Core.Path.{_≡_}
 use lib.ListN.{length, getD}
 use Rattle.classes.specs.Tokens.{joins}
-use Rattle.cuts.specs.declared.Token.{Token}
-use Rattle.cuts.specs.Tokens.{tokenWidth}
-
--- the token at a place of the area: what `numbersOf` wrote there
-abbrev pub tokenAt : List ℕ → ℕ → Token
-tokenAt area i = record {
-  chars = record { 0 = getD area (i * tokenWidth) 0; 1 = getD area (i * tokenWidth + 1) 0 };
-  bytes = record { 0 = getD area (i * tokenWidth + 2) 0; 1 = getD area (i * tokenWidth + 3) 0 };
-}
 
 -- a maximal run, from a position up to another, of positions of which something holds, in a block of n characters
 pub record MaximalRun (holds : ℕ → Bool) (n from to : ℕ) : Type 0 where

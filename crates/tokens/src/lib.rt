@@ -14,7 +14,7 @@ ghost use Rattle.book.specs.Returns.{longestText};
 ghost use Rattle.cuts.specs.Slices.{Placed};
 ghost use Rattle.cuts.specs.Tokens.{span, singly, runsOf, numbersOf, tokenWidth, written};
 ghost use Rattle.cuts.specs.Cuts.{Base, cutAnswer, putSpans};
-ghost use Rattle.tokens.specs.Runs.{tokenAt, joiningRun};
+ghost use Rattle.tokens.specs.Runs.{joiningRun};
 use book::Outcome;
 use cuts::ByteOffsets;
 use cuts::CharOffsets;
@@ -31,18 +31,6 @@ fn put_token(tokens: &mut [u32], count: usize, token: Token)
     tokens[at + 1] = token.chars.1;
     tokens[at + 2] = token.bytes.0;
     tokens[at + 3] = token.bytes.1;
-}
-
-// The token that stands at a place.
-pub fn token_at(tokens: &[u32], i: usize) -> Token
-    requires { ⌜ i * tokenWidth + tokenWidth ≤ length (now tokens) ⌝ }
-    ensures { λ r. ⌜ r ≡ tokenAt (was tokens) i ⌝ }
-{
-    let at = i * cuts::TOKEN_WIDTH;
-    Token {
-        chars: CharOffsets(tokens[at], tokens[at + 1]),
-        bytes: ByteOffsets(tokens[at + 2], tokens[at + 3]),
-    }
 }
 
 // Writes the token of the block's characters from x up to y, if there is a place for it.
