@@ -24,11 +24,14 @@ const WORK: usize = 1025;
 // The places of an edge area.
 const EDGES: usize = 1024;
 
-// The numbers of a token area: those of 512 tokens.
-const TOKENS: usize = 2048;
+// The places of a token area.
+const PLACES: usize = 512;
+
+// The numbers of a token area.
+const TOKENS: usize = PLACES * cuts::TOKEN_WIDTH;
 
 // The bytes of the longest answer.
-pub const LONGEST_ANSWER: usize = 8199;
+pub const LONGEST_ANSWER: usize = 7 + 4 * TOKENS;
 
 // What is answered to a line: the book's head after it, and where the answer ends.
 pub struct Answer {
@@ -40,7 +43,7 @@ pub struct Answer {
 fn numbers_of(count: usize) -> usize
     ensures { λ r. ⌜ NumbersOf count r ⌝ }
 {
-    if TOKENS / cuts::TOKEN_WIDTH < count {
+    if PLACES < count {
         return TOKENS;
     }
     count * cuts::TOKEN_WIDTH

@@ -9,15 +9,20 @@ mod input;
 
 use book::Prepared;
 
-// One book for the whole run: 256 root entries, 1,024 slots and 256 records.
+// The sizes of the book.
+const ROOT_ENTRIES: usize = 256;
+const SLOTS: usize = 1024;
+const RECORDS: usize = 256;
+
+// One book serves the whole run.
 fn main() {
-    let mut root_children = [0u32; 256];
-    let mut root_words = [0i32; 256];
-    let mut keys = [0u64; 1024];
-    let mut children = [0u32; 1024];
-    let mut words = [0i32; 1024];
-    let mut frequencies = [0u32; 256];
-    let mut logarithms = [0.0f64; 256];
+    let mut root_children = [0u32; ROOT_ENTRIES];
+    let mut root_words = [0i32; ROOT_ENTRIES];
+    let mut keys = [0u64; SLOTS];
+    let mut children = [0u32; SLOTS];
+    let mut words = [0i32; SLOTS];
+    let mut frequencies = [0u32; RECORDS];
+    let mut logarithms = [0.0f64; RECORDS];
     let Prepared::Ready(head) = prepare::prepare(
         &mut root_children,
         &mut root_words,
