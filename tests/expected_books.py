@@ -13,6 +13,7 @@ and to see that the file is what this script says:
     python3 tests/expected_books.py | diff - crates/book_checks/stdout
 """
 
+import os
 import re
 
 # ---- document 01's rules of a line, and its logarithm
@@ -353,6 +354,32 @@ def play(heading, sizes, commands):
         after = sum_of(book)
         head = " ".join(map(str, book.head))
         yield f"{shown(command)}: {said}; head {head}; areas {after}, {'unchanged' if before == after else 'changed'}"
+
+
+# ---- the cases
+
+
+def cases(program):
+    """The cases of a program's input, each in its parts. Paragraphs that begin with # are notes."""
+    with open(os.path.join(os.path.dirname(__file__), "..", "crates", program, "stdin"), "rb") as file:
+        paragraphs = file.read().split(b"\n\n")
+    for paragraph in paragraphs:
+        if not paragraph.startswith(b"#"):
+            yield re.sub(rb"\\(n|r|[0-9A-F]{2})", unescaped, paragraph.replace(b"\n", b"")).split(b"|")
+
+
+def unescaped(escape):
+    name = escape[1]
+    return {b"n": b"\n", b"r": b"\r"}.get(name) or bytes.fromhex(name.decode())
+
+
+def lengths(sizes):
+    return [int(n) for n in re.findall(rb"\d+", sizes)]
+
+
+def commands_of(script):
+    """The commands, each of which ends with a semicolon."""
+    return script.split(b";")[:-1]
 
 
 def alike(root, slots, records):

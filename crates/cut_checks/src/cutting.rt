@@ -207,6 +207,21 @@ fn stored_head(command: &[u8]) -> Head {
     }
 }
 
+// 1 where each slice has a field of its own, else 0.
+fn apart(name: u8) -> u64
+    ensures { λ r. ⌜ r ≤ 1 ⌝ }
+{
+    if name == b's' { 1 } else { 0 }
+}
+
+fn mode(name: u8) -> TokenizeMode {
+    if name == b'f' {
+        TokenizeMode::Search
+    } else {
+        TokenizeMode::Default
+    }
+}
+
 // Plays one command. The answer is the head for the next one.
 fn turn(
     head: Head,
@@ -219,61 +234,37 @@ fn turn(
     logarithms: &[f64],
     command: &[u8],
 ) -> Head {
-    match script::name(command) {
-        b'h' => {
-            return stored_head(command);
-        }
-        b's' => tokenize(
-            head,
-            root_children,
-            root_words,
-            keys,
-            children,
-            words,
-            frequencies,
-            logarithms,
-            command,
-            1,
-            TokenizeMode::Default,
-        ),
-        b'f' => tokenize(
-            head,
-            root_children,
-            root_words,
-            keys,
-            children,
-            words,
-            frequencies,
-            logarithms,
-            command,
-            0,
-            TokenizeMode::Search,
-        ),
-        b'a' => cut_all(
-            head,
-            root_children,
-            root_words,
-            keys,
-            children,
-            words,
-            frequencies,
-            logarithms,
-            command,
-        ),
-        _ => tokenize(
-            head,
-            root_children,
-            root_words,
-            keys,
-            children,
-            words,
-            frequencies,
-            logarithms,
-            command,
-            0,
-            TokenizeMode::Default,
-        ),
+    let name = script::name(command);
+    if name == b'h' {
+        return stored_head(command);
     }
+    if name == b'a' {
+        cut_all(
+            head,
+            root_children,
+            root_words,
+            keys,
+            children,
+            words,
+            frequencies,
+            logarithms,
+            command,
+        );
+        return head;
+    }
+    tokenize(
+        head,
+        root_children,
+        root_words,
+        keys,
+        children,
+        words,
+        frequencies,
+        logarithms,
+        command,
+        apart(name),
+        mode(name),
+    );
     head
 }
 
