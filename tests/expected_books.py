@@ -2,7 +2,8 @@
 
 A plain model of document 01's book, with the areas as lists of numbers: the trie in its root table and slots, a line that enters, a
 word that is added or looked up, and what each call refuses. UTF-8 is Python's own strict codec. Nothing here comes from the Rattle code
-but the scripts, which say what is done to which areas, and the form of the lines that are printed.
+but the form of the lines that are printed: the cases, which say what is done to which areas, are the program's input,
+crates/book_checks/stdin.
 
 From the repository's root, to write the file that the gate compares with:
 
@@ -345,7 +346,6 @@ def play(heading, sizes, commands):
     book = Book(sizes)
     after = sum_of(book)
     for command in commands:
-        command = command.encode() if isinstance(command, str) else command
         before = after
         try:
             said = answer(book, command)
@@ -382,119 +382,10 @@ def commands_of(script):
     return script.split(b";")[:-1]
 
 
-def alike(root, slots, records):
-    return root, root, slots, slots, slots, records, records
-
-
 TITLE = "What is done: the answer; head (records used, slots used, next node, total); sum over the areas"
-
-BOOK_A = "load 打开 256\n开灯 256\n打 64\n开 64\n灯 128\n客厅 128\n客厅灯 64\n厅灯 64\n"
-FIRST_TWELVE = [f"add {c} 1" for c in "abcdefghijkl"]
-
-# Each case: the module that plays it, the function there, a heading, the lengths of the seven areas, the commands.
-CASES = [
-    ("built", "print_book_a", "Book A", alike(65536, 16, 16), [
-        "get 打", "prepare", BOOK_A, "get 打开", "get 开灯", "get 打", "get 开", "get 灯", "get 客厅", "get 客厅灯", "get 厅灯",
-        "get 客", "get 厅", "get 打开灯", "get 打灯", "get a", "add 打 65", "get 打", BOOK_A,
-    ]),
-    ("built", "print_book_a_in_slots", "Book A with one root entry", alike(1, 64, 8), [
-        "prepare", BOOK_A, "get 打开", "get 开灯", "get 打", "get 开", "get 灯", "get 客厅", "get 客厅灯", "get 厅灯", "get 客",
-    ]),
-    ("built", "print_small_books", "Document 01's smaller books, one after the other", alike(65536, 16, 4), [
-        "prepare", "load 甲 16\n乙 16\n甲乙 4\n丙 28", "get 甲乙", "load 甲乙 3\n丙 29", "get 丙",
-        "prepare", "load 甲\n甲乙 0", "get 甲", "get 甲乙", "get 乙", "load 丙 1", "get 丙",
-        "prepare", "load WES 1\nWES-5.4.5 1", "get WES", "get WES-5.4.5", "get WES-5",
-    ]),
-    ("built", "print_lines", "Lines: blank ones, other white space, a third field, a word twice, no last line end", alike(128, 16, 4), [
-        "prepare", "load ", "load \n", "load \n \t\n\r\n", "load a 5 n\r\n\n\u3000b\u3000+6 x y\na 7", "get a", "get b", "load c", "get c",
-    ]),
-    ("built", "print_frequencies", "Frequencies", alike(128, 16, 4), [
-        "prepare", "load a +", "load a +7", "get a", "add b 4294967296", "get b", "add b 4294967288", "load c 4294967296",
-        "load c x", "load c -1", "add c 0", "get c",
-    ]),
-    ("refused", "print_twelve_slots", "16 slots, one by one", alike(1, 16, 16), [
-        "prepare", *FIRST_TWELVE, "add m 1", "get l", "get m", "add l 5", "get l", "load m 1", "get ",
-    ]),
-    ("refused", "print_long_words", "16 slots at once, and more root entries", alike(128, 16, 16), [
-        "prepare", "add abcdefghijklmn 1", "add abcdefghijklm 2", "add z 3", "add abcdefghijklmn 4", "add ab 5", "add ac 6",
-        "get abcdefghijklm", "get abcdefghijklmn", "get ab",
-    ]),
-    ("refused", "print_third_lines", "Loads refused at their third line", alike(128, 16, 3), [
-        "prepare", b"load a 1\nb 2\nc\xff 3\nd 4", "get a", "get b", "get c", "get d", "prepare", "load a 1\nb 2\nc + 3\nd 4",
-        "get a", "get b", "get c", "prepare", "load a 1\nb 2\nc 4294967293\nd 4", "get a", "get b", "get c",
-        "prepare", "load z 9\na 1", "load a 3\nb 2\nc 5\nd 4", "get a", "get b", "get c",
-        "prepare", "load a 1\nb 2\ncdefghijklmnopq 3", "get a", "get b", "get c",
-        "prepare", "add c 1", "root 99 100 9", "load a 1\n\nc 2\nd 3", "get a", "get c",
-    ]),
-    ("refused", "print_totals", "Totals and records", alike(128, 16, 2), [
-        "prepare", "add a 4294967295", "add b 1", "add a 4294967295", "add b 0", "add b 1", "add a 4294967294", "add b 1", "add b 2",
-        "add c 0", "add c 1", "add c 0", "load c 0", "load b 2", "add a 0", "get a", "get b", "get c",
-    ]),
-    ("refused", "print_malformed", "Malformed texts and the empty word", alike(128, 16, 4), [
-        "prepare", b"get \xff", b"add \xff 5", b"add a\xe7\x94 4294967296", b"load a 1 \xc3", b"load a x \xff", b"load \xed\xa0\x80 1",
-        "get ", "add  5", "add  4294967296", "head 9 9 0 0", "get ", "add  5", b"get \xff", b"add \xff 5", b"load \xff", "load \n \n",
-        "add a 4294967296", "load a +",
-    ]),
-]  # fmt: skip
-
-WRONG_CALLS = ["prepare", "get a", b"get \xff", "get ", "add a 1", "add  4294967296", "load a 1", b"load \xff", "load "]
-
-WRONG_SIZES = [
-    ("No root entries", (0, 0, 16, 16, 16, 4, 4)),
-    ("A root entry too many", (65537, 65537, 16, 16, 16, 4, 4)),
-    ("Fewer root words", (128, 127, 16, 16, 16, 4, 4)),
-    ("Fewer root children", (127, 128, 16, 16, 16, 4, 4)),
-    ("No slots", (128, 128, 0, 0, 0, 4, 4)),
-    ("8 slots", (128, 128, 8, 8, 8, 4, 4)),
-    ("24 slots", (128, 128, 24, 24, 24, 4, 4)),
-    ("Fewer keys", (128, 128, 16, 32, 32, 4, 4)),
-    ("Fewer children", (128, 128, 32, 16, 32, 4, 4)),
-    ("Fewer word numbers", (128, 128, 32, 32, 16, 4, 4)),
-    ("No records", (128, 128, 16, 16, 16, 0, 0)),
-    ("Fewer frequencies", (128, 128, 16, 16, 16, 3, 4)),
-    ("Fewer logarithms", (128, 128, 16, 16, 16, 4, 3)),
-]
-
-for heading, sizes in WRONG_SIZES:
-    CASES.append(("sizes", "print_group", heading, sizes, WRONG_CALLS))
-
-DAMAGED_CALLS = ["get a", "add a 2", "add b 2", "load a 2"]
-
-
-def heads(*each):
-    return [command for head in each for command in [f"head {head}", *DAMAGED_CALLS]]
-
-
-CASES += [
-    ("damaged", "print_heads", "Damaged heads", alike(128, 16, 4), [
-        "prepare", "add a 1", *heads("5 0 2 1", "1 13 2 1", "1 17 2 1", "1 18446744073709551600 2 1"),
-        *heads("1 0 0 1", "1 0 16777216 1", "1 0 2 4294967296"), "load \n \n", "load \na 1", "load a +", "add a 4294967296",
-    ]),
-    ("damaged", "print_last_heads", "Heads at their limits", alike(128, 16, 4), [
-        "prepare", "add a 1", "head 4 0 2 1", "get a", "add b 2", "add a 2", "head 1 12 2 2", "get a", "add bc 2", "add b 2",
-        "head 2 0 16777215 4", "get a", "add c 2", "add a 3", "head 2 0 16777214 5", "add cd 2", "add c 2", "get c",
-        "head 3 0 5 4294967295", "get a", "add d 0", "add d 1",
-    ]),
-    ("damaged", "print_probes", "No empty slot", alike(1, 16, 4), [
-        "prepare", "add a 1", "keys 0 16 5", "get b", "add b 2", "load \nb 2", "get a", "add a 2",
-    ]),
-    ("damaged", "print_empty_slots", "One empty slot", alike(1, 16, 4), [
-        "prepare", "keys 1 16 5", "get b", "add bc 2", "load bc 2", "head 0 11 1 0", "add bc 2", "head 0 10 1 0", "add bc 2", "add b 2",
-        "get b", "add c 3", "get c", "add b 4", "get b",
-    ]),
-    ("damaged", "print_word_numbers", "Word numbers", alike(128, 16, 8), [
-        "prepare", "load a 1\nab 2\nabc 3", "root 97 98 3", "get a", "add a 5", "load a 5", "get ab", "get abc", "add ab 4",
-        "root 97 98 2147483648", "get a", "add a 5", "load b 1\na 5", "get abc", "root 97 98 2", "get a", "words 0 16 9", "get ab",
-        "add ab 1", "get abc", "add abc 1", "add abcd 1", "get abcd", "get ac",
-    ]),
-    ("damaged", "print_old_frequencies", "A frequency above the total", alike(128, 16, 4), [
-        "prepare", "load a 1\nb 2", "frequencies 0 1 4", "get a", "add a 1", "load b 1\na 1", "get b", "add a 2", "get a",
-        "frequencies 0 1 2", "add b 2", "frequencies 0 1 3", "add a 4294967294", "add a 4294967295", "add b 3", "head 2 0 3 2", "add a 1",
-    ]),
-]  # fmt: skip
 
 if __name__ == "__main__":
     print(TITLE)
-    for _, _, heading, sizes, commands in CASES:
+    for heading, sizes, script in cases("book_checks"):
         print()
-        print("\n".join(play(heading, sizes, commands)))
+        print("\n".join(play(heading.decode(), lengths(sizes), commands_of(script))))

@@ -239,45 +239,36 @@ fn play(
     }
 }
 
-// The lengths that are lent, as a heading says them.
-fn print_sizes(
-    root: usize,
-    root_words: usize,
-    slots: usize,
-    children: usize,
-    words: usize,
-    records: usize,
-    logarithms: usize,
-) {
-    print(b" (root");
-    print_next(root as u64);
-    print_next(root_words as u64);
-    print(b", slots");
-    print_next(slots as u64);
-    print_next(children as u64);
-    print_next(words as u64);
-    print(b", records");
-    print_next(records as u64);
-    print_next(logarithms as u64);
+// A length of a case's second part, `root R R, slots S S S, records N N`.
+fn size(case: &[u8], field: u64, places: usize) -> usize
+    ensures { λ r. ⌜ r ≤ places ⌝ }
+{
+    let at = script::after(case, 1, b'|');
+    script::length(&case[at..], field, places)
+}
+
+fn print_heading(case: &[u8]) {
+    let end = script::find(case, 0, b'|');
+    let sizes = script::after(case, 1, b'|');
+    let sizes_end = script::find(case, sizes, b'|');
+    print(b"\n");
+    print(&case[..end]);
+    print(b" (");
+    print(&case[sizes..sizes_end]);
     print(b")\n");
 }
 
-// Plays a script on areas of these lengths, under a heading. They hold sevens at first, so that what `prepare` writes shows.
-pub fn lend(
-    heading: &[u8],
-    root: usize,
-    root_words: usize,
-    slots: usize,
-    children: usize,
-    words: usize,
-    records: usize,
-    logarithms: usize,
-    script: &[u8],
-)
-    requires { ⌜ (root ≤ 65537) × («root_words» ≤ 65537) ⌝ }
-    requires { ⌜ (slots ≤ 64) × (children ≤ 64) × (words ≤ 64) ⌝ }
-    requires { ⌜ (records ≤ 16) × (logarithms ≤ 16) ⌝ }
-{
+// Plays a case. The areas hold sevens at first, so that what `prepare` writes shows.
+pub fn play_case(case: &[u8]) {
+    print_heading(case);
+    let root = size(case, 1, 65537);
+    let root_words = size(case, 2, 65537);
+    let keys = size(case, 4, 64);
+    let children = size(case, 5, 64);
+    let words = size(case, 6, 64);
+    let frequencies = size(case, 8, 16);
+    let logarithms = size(case, 9, 16);
+    let script = script::after(case, 2, b'|');
     let mut root_area = [7u32; 65537];
     let mut root_words_area = [7i32; 65537];
     let mut key_area = [7u64; 64];
@@ -285,42 +276,14 @@ pub fn lend(
     let mut word_area = [7i32; 64];
     let mut frequency_area = [7u32; 16];
     let mut logarithm_area = [7.0f64; 16];
-    print(b"\n");
-    print(heading);
-    print_sizes(
-        root,
-        root_words,
-        slots,
-        children,
-        words,
-        records,
-        logarithms,
-    );
     play(
         &mut root_area[..root],
         &mut root_words_area[..root_words],
-        &mut key_area[..slots],
+        &mut key_area[..keys],
         &mut child_area[..children],
         &mut word_area[..words],
-        &mut frequency_area[..records],
+        &mut frequency_area[..frequencies],
         &mut logarithm_area[..logarithms],
-        script,
-    );
-}
-
-// The same where the slices of each part are equally long.
-pub fn lend_alike(heading: &[u8], root: usize, slots: usize, records: usize, script: &[u8])
-    requires { ⌜ (root ≤ 65537) × (slots ≤ 64) × (records ≤ 16) ⌝ }
-{
-    lend(
-        heading,
-        root,
-        root,
-        slots,
-        slots,
-        slots,
-        records,
-        records,
-        script,
+        &case[script..],
     );
 }

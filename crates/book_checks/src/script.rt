@@ -1,5 +1,6 @@
-// A script is a text of commands, each ended by `;`, whose fields are parted by single spaces. The seven areas of a book cannot
-// stand in one value, so that every call written out takes a dozen lines; a script writes a case in a few words.
+// A case is a text: a heading, the lengths of the book's seven areas, and a script, with `|` between them. A script is commands, each
+// ended by `;`, whose fields are parted by single spaces. The seven areas of a book cannot stand in one value, so that every call
+// written out takes a dozen lines; a case is written in a few words.
 //
 // The commands: `prepare`, `load TEXT`, `add WORD FREQUENCY` and `get WORD` are the calls. `head RECORDS SLOTS NEXT TOTAL` stores a
 // head; `keys FROM END VALUE`, and so `words`, `root` and `frequencies`, store into an area. The first letter tells them apart.
@@ -15,6 +16,21 @@ pub fn find(s: &[u8], from: usize, byte: u8) -> usize
     while i < s.len() {
         if s[i] == byte {
             return i;
+        }
+        i += 1;
+    }
+    i
+}
+
+// Where the text goes on after so many of these bytes, or its end where it has fewer.
+pub fn after(s: &[u8], count: u64, byte: u8) -> usize
+    ensures { λ r. ⌜ r ≤ length (now (s .entry)) ⌝ }
+{
+    let mut left = count;
+    let mut i = 0;
+    while i < s.len() && 0 < left {
+        if s[i] == byte {
+            left -= 1;
         }
         i += 1;
     }
@@ -66,6 +82,17 @@ pub fn number(command: &[u8], field: u64) -> u64 {
             n = with_digit(n, command[i]);
         }
         i += 1;
+    }
+    n
+}
+
+// The same as a length of an area that has so many places: that many where the number is greater.
+pub fn length(command: &[u8], field: u64, places: usize) -> usize
+    ensures { λ r. ⌜ r ≤ places ⌝ }
+{
+    let n = number(command, field) as usize;
+    if places < n {
+        return places;
     }
     n
 }

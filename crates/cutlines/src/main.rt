@@ -11,7 +11,9 @@ use book::Prepared;
 
 // The sizes of the book.
 const ROOT_ENTRIES: usize = 256;
+
 const SLOTS: usize = 1024;
+
 const RECORDS: usize = 256;
 
 // One book serves the whole run.

@@ -1,22 +1,37 @@
--- `book_checks::play::lend` is safe: each length that is lent is at most its array's.
+-- `book_checks::play::play_case` is safe: each length that is lent is at most its array's, and the script lies within the case.
 -- Assumes nothing.
 use native.Mathlib.Omega.{arith}
 use lib.ListN.{length-take}
 use borrow.Author.Needs.{needs}
-use Rattle.book_checks.proofs.play.lend.Statement.{statement}
-use Rattle.book_checks.proofs.play.lend.Tie as tie
+use Rattle.book_checks.proofs.play.play_case.Statement.{statement}
+use Rattle.book_checks.proofs.play.play_case.Tie as tie
 
-slice-aggregate-print : tie.Need-slice-aggregate-print
-slice-aggregate-print c = search needs
+print-heading-requires : tie.Need-print-heading-requires
+print-heading-requires c κs = search needs
 
-print-requires : tie.Need-print-requires
-print-requires c κs = search needs
+size-requires : tie.Need-size-requires
+size-requires c κs = search needs
 
-print-requires-2 : tie.Need-print-requires-2
-print-requires-2 c κs = search needs
+size-requires-2 : tie.Need-size-requires-2
+size-requires-2 c κs = search needs
 
-print-sizes-requires : tie.Need-print-sizes-requires
-print-sizes-requires c κs = search needs
+size-requires-3 : tie.Need-size-requires-3
+size-requires-3 c κs = search needs
+
+size-requires-4 : tie.Need-size-requires-4
+size-requires-4 c κs = search needs
+
+size-requires-5 : tie.Need-size-requires-5
+size-requires-5 c κs = search needs
+
+size-requires-6 : tie.Need-size-requires-6
+size-requires-6 c κs = search needs
+
+size-requires-7 : tie.Need-size-requires-7
+size-requires-7 c κs = search needs
+
+after-requires : tie.Need-after-requires
+after-requires c κs = search needs
 
 array-borrow-prefix-root-area : tie.Need-array-borrow-prefix-root-area
 array-borrow-prefix-root-area c = search needs
@@ -60,20 +75,34 @@ array-borrow-prefix-logarithm-area c = search needs
 slice-aggregate-play-7 : tie.Need-slice-aggregate-play-7
 slice-aggregate-play-7 c = simp length-take (omega arith)
 
+sub-play : tie.Need-sub-play
+sub-play c = search needs
+
+part-play-start : tie.Need-part-play-start
+part-play-start c = search needs
+
+part-play-end : tie.Need-part-play-end
+part-play-end c = search needs
+
 play-requires : tie.Need-play-requires
 play-requires c κs = search needs
 
 returns : tie.Need-returns
 returns c = search needs
 
-pub lend-spec : {M : Type 1} → statement M
-lend-spec =
+pub play-case-spec : {M : Type 1} → statement M
+play-case-spec =
     tie.close
     (tie.spec
-    slice-aggregate-print
-    print-requires
-    print-requires-2
-    print-sizes-requires
+    print-heading-requires
+    size-requires
+    size-requires-2
+    size-requires-3
+    size-requires-4
+    size-requires-5
+    size-requires-6
+    size-requires-7
+    after-requires
     array-borrow-prefix-root-area
     slice-aggregate-play
     array-borrow-prefix-root-words-area
@@ -88,5 +117,8 @@ lend-spec =
     slice-aggregate-play-6
     array-borrow-prefix-logarithm-area
     slice-aggregate-play-7
+    sub-play
+    part-play-start
+    part-play-end
     play-requires
     returns)
