@@ -2,7 +2,7 @@
 //! and the decision by which a word enters.
 
 ghost use mathlib.Core.Path.{_≡_};
-ghost use Prim.Native.Nat.{_≤_, _<_};
+ghost use Prim.Native.Nat.{_-_, _≤_, _<_};
 ghost use lib.Dec.{leb};
 ghost use lib.ListN.{length};
 ghost use Rattle.trie.specs.Lent.{was};
@@ -106,6 +106,14 @@ pub const GREATEST_TOTAL: u64 = 4_294_967_295;
 // The last node number that is given out, plus one.
 pub const LAST_NODE: u64 = 16_777_215;
 
+// The nodes for which a search for empty slots starts at one place.
+const STAY: u64 = 1_024;
+
+// The golden ratio's share of 2^32: its multiples spread evenly over it.
+const GOLDEN: u64 = 0x9E37_79B9;
+
+const PARTS: u64 = 0x1_0000_0000;
+
 // Whether the lengths of a book's areas are allowed: the root's two, the slots' three, the records' two.
 pub fn is_allowed(
     root_children: usize,
@@ -144,22 +152,41 @@ pub fn is_head_damaged(head: Head, records: usize, slots: usize) -> bool
         | (LAST_NODE < head.next)
 }
 
-// Whether so many slots are empty, or more. It looks no further than it has to.
-fn has_empty(keys: &[u64], count: u64) -> bool
-    ensures { λ r. ⌜ r ≡ leb count (emptySlots (was keys)) ⌝ }
+// How many empty slots are still wanted after these, of so many. It looks no further than it has to.
+fn still_wanted(keys: &[u64], count: u64) -> u64
+    ensures { λ r. ⌜ r ≡ count - emptySlots (was keys) ⌝ }
 {
     let mut left = count;
     let mut i = 0;
     while i < keys.len() {
         if left == 0 {
-            return true;
+            return 0;
         }
         if keys[i] == 0 {
             left -= 1;
         }
         i += 1;
     }
-    left == 0
+    left
+}
+
+// Whether so many slots are empty, or more: looked for from the start on, and then before it.
+fn has_empty(keys: &[u64], start: usize, count: u64) -> bool
+    requires { ⌜ start ≤ length (now keys) ⌝ }
+    ensures { λ r. ⌜ r ≡ leb count (emptySlots (was keys)) ⌝ }
+{
+    let left = still_wanted(&keys[start..], count);
+    still_wanted(&keys[..start], left) == 0
+}
+
+// Where a new word's search for empty slots starts: a place that goes far each time it moves, so that a long run of taken slots
+// is not passed again for every new word. It stays for some nodes, since a search that is much like the last one is quicker.
+fn search_start(next: u64, slots: usize) -> usize
+    requires { ⌜ (next ≤ 16777215) × (slots ≤ 4194304) ⌝ }
+    ensures { λ r. ⌜ r ≤ slots ⌝ }
+{
+    let part = (next / STAY + 1) * GOLDEN % PARTS;
+    (part * slots as u64 / PARTS) as usize
 }
 
 // Whether every record is taken, of so many.
@@ -216,7 +243,7 @@ pub fn decide_new(
     if keys.len() as u64 * 6 < (head.slots + slots) * 8 {
         return Decision::Refuse(Outcome::SlotsFull);
     }
-    if !has_empty(keys, slots) {
+    if !has_empty(keys, search_start(head.next, keys.len()), slots) {
         return Decision::Refuse(Outcome::Damaged);
     }
     if LAST_NODE < head.next + nodes {

@@ -22,7 +22,7 @@ abbrev roomy : tie.Else3 → tie.Else2
 roomy c = c .before .before
 
 abbrev counted : tie.Else4 → tie.Else3
-counted c = c .before .before
+counted c = c .before .before .before
 
 a-record : (c : tie.Else2) → noRecord (lent (recorded c) .args .head) (lent (recorded c) .args .records) ≡ false
 a-record c = sym (c .before .no-record .ensures) ∙ c .if2 .left
@@ -57,12 +57,15 @@ returns-3 c =
     let a = lent (recorded two) .args in
     slots-taken (a .head) (a .records) (a .keys .now) (a .slots) (a .nodes) (a .frequency) (recorded two .if1 .left) (a-record two) (c .if3 .taken)
 
+search-start-requires : tie.Need-search-start-requires
+search-start-requires c κs = search needs
+
 has-empty-requires : tie.Need-has-empty-requires
 has-empty-requires c κs = search needs
 
 returns-4 : tie.Need-returns-4
 returns-4 c =
-    let three = c .before .before in
+    let three = c .before .before .before in
     let two = roomy three in
     let a = lent (recorded two) .args in
     slots-missing (a .head) (a .records) (a .keys .now) (a .slots) (a .nodes) (a .frequency) (recorded two .if1 .left) (a-record two) (three .if3 .left) (too-few _ (a .slots) (emptySlots (a .keys .now)) (c .before .has-empty .ensures) (c .if4 .taken))
@@ -96,6 +99,7 @@ decide-new-spec =
     add-if3
     mul-if3-2
     returns-3
+    search-start-requires
     has-empty-requires
     returns-4
     add-if5
