@@ -19,11 +19,13 @@ use Rattle.trie.specs.declared.ParentRef.{ParentRef}
 use Rattle.trie.specs.declared.Step.{Step}
 use Rattle.trie.specs.declared.Step.the-variants.{At, Nothing, Damaged}
 use Rattle.trie.specs.Trie.{CharTrie, SlotCount, withWord, extend}
-use Rattle.insert.specs.Insert.{Inside, characters, Stepped, stepped, newStep, extendStepped}
+use Rattle.walk.specs.Walk.{Inside}
+use Rattle.walk.proofs.Places.{inside-same}
+use Rattle.insert.specs.Insert.{characters, Stepped, stepped, newStep, extendStepped}
 use Rattle.insert.specs.Claims.{SameLengths}
 use Rattle.insert.proofs.Lengths.{same-lengths, then-same, new-step-keeps}
 use Rattle.insert.proofs.NewSteps.{new-inside, extend-end, extend-steps-then-extends}
-use Rattle.insert.proofs.Inside.{inside-same, slots-same}
+use Rattle.insert.proofs.Sizes.{slots-same}
 use Rattle.insert.proofs.Words.{no-more, one-more}
 
 -- ---- the extension by a word, by the step of its first character

@@ -17,12 +17,14 @@ use Rattle.trie.specs.declared.ParentRef.the-variants.{Root}
 use Rattle.trie.specs.declared.Step.{Step}
 use Rattle.trie.specs.declared.Step.the-variants.{At, Nothing, Damaged}
 use Rattle.trie.specs.Trie.{trieOf, CharTrie, SlotCount, openStep, Reached, NoEnd, withBits, extend, insert}
+use Rattle.walk.specs.Walk.{Inside}
+use Rattle.walk.proofs.Places.{starts-inside, inside-same, leads-open}
 use Rattle.insert.specs.declared.Marked.{Marked}
 use Rattle.insert.specs.declared.Marked.the-variants.{UpTo}
-use Rattle.insert.specs.Insert.{Inside, characters, MarkedTrie, marked, mark, extendMarked, reachOf, Ready}
+use Rattle.insert.specs.Insert.{characters, MarkedTrie, marked, mark, extendMarked, reachOf, Ready}
 use Rattle.insert.specs.Claims.{InsertMarksThenExtends}
 use Rattle.insert.proofs.Lengths.{bits-keep}
-use Rattle.insert.proofs.Inside.{root-inside, inside-same, slots-same, next-inside}
+use Rattle.insert.proofs.Sizes.{slots-same}
 use Rattle.insert.proofs.Words.{no-more, one-more}
 
 -- ---- the marks of a word, by the step of its first character
@@ -57,7 +59,7 @@ pub record Marking (rootChildren₀ keys₀ children₀ s rootChildren keys chil
 
 pub begins : (rootChildren keys children s : List ℕ) → IsSome (charsOf s) → Marking rootChildren keys children s rootChildren keys children Root 0
 unfolding charsFrom
-begins rootChildren keys children s whole = record { entries = refl; slots = refl; child-slots = refl; inside = root-inside _ _; well-formed = whole; same = λ rootWords words. refl }
+begins rootChildren keys children s whole = record { entries = refl; slots = refl; child-slots = refl; inside = starts-inside _ _; well-formed = whole; same = λ rootWords words. refl }
 
 -- what the function ensures, where it ends with r
 abbrev Marks : List ℕ → List ℕ → List ℕ → List ℕ → List ℕ → List ℕ → List ℕ → Marked → Type 0
@@ -87,7 +89,7 @@ module _ {rootChildren₀ keys₀ children₀ s rootChildren keys children : Lis
       pub goes-on : {q : ParentRef} → SlotCount (length keys₀) → next ≡ At q → Marking rootChildren₀ keys₀ children₀ s rootChildren′ keys′ children′ q (at + w)
       goes-on {q} allowed e =
           let kept = bits-keep (trieOf rootChildren [] keys children []) p c in
-          let below = next-inside rootChildren keys children p c next q (slots-same _ _ (here .slots) allowed) opened e in
+          let below = leads-open rootChildren keys children (slots-same _ _ (here .slots) allowed) p q c next e opened in
           record {
             entries = ap (λ (t : CharTrie). length (t .rootChildren)) (bits [] []) ∙ kept .rootChildren ∙ here .entries;
             slots = ap (λ (t : CharTrie). length (t .keys)) (bits [] []) ∙ kept .keys ∙ here .slots;

@@ -20,9 +20,10 @@ use Rattle.trie.specs.declared.Step.{Step}
 use Rattle.trie.specs.declared.Step.the-variants.{At, Damaged}
 use Rattle.trie.specs.Trie.{CharTrie, SlotCount, keyOf, nodeAt, fromRoot, emptySlot, withBits, withWord, newRootEntry, newSlot, extend}
 use Rattle.trie.proofs.Probes.{empty-slot-is-empty}
-use Rattle.insert.specs.Insert.{Inside, Stepped, stepped, newStepBy, newStep, extendStepped}
+use Rattle.walk.specs.Walk.{Inside}
+use Rattle.walk.proofs.Places.{only-first, LeadsInside}
+use Rattle.insert.specs.Insert.{Stepped, stepped, newStepBy, newStep, extendStepped}
 use Rattle.insert.specs.Claims.{ExtendStepsThenExtends}
-use Rattle.insert.proofs.Inside.{only-first, StepInside}
 
 -- ---- one new step, as the code takes it
 
@@ -58,23 +59,23 @@ module _ (t : CharTrie) (p : ParentRef) (ch node : ℕ) (b : Bool) (tested : b �
 -- ---- where it leads
 
 module _ (t : CharTrie) (p : ParentRef) (c node : ℕ) (allowed : SlotCount (length (t .keys))) where
-  slot-leads-inside : (r : Probe) → emptySlot (t .keys) (keyOf (nodeAt t p) c) ≡ r → StepInside (length (t .rootChildren)) (length (t .keys)) (newStepBy r t p c node .step)
+  slot-leads-inside : (r : Probe) → emptySlot (t .keys) (keyOf (nodeAt t p) c) ≡ r → LeadsInside t (newStepBy r t p c node .step)
   unfolding newStepBy Inside
   slot-leads-inside (Found i) e = tt
   slot-leads-inside (Empty i) e = empty-slot-is-empty (t .keys) (keyOf (nodeAt t p) c) i allowed e .0
   slot-leads-inside Endless e = tt
 
-  leads-inside : StepInside (length (t .rootChildren)) (length (t .keys)) (newStep t p c node .step)
+  leads-inside : LeadsInside t (newStep t p c node .step)
   unfolding newStep Inside
   leads-inside = by-root (fromRoot t p c) refl
     where
       by-root : (b : Bool) → fromRoot t p c ≡ b
-          → StepInside (length (t .rootChildren)) (length (t .keys)) (cond b (stepped (At (RootEntry c)) (newRootEntry t c node)) (newStepBy (emptySlot (t .keys) (keyOf (nodeAt t p) c)) t p c node) .step)
-      by-root true e = only-first t p c e
+          → LeadsInside t (cond b (stepped (At (RootEntry c)) (newRootEntry t c node)) (newStepBy (emptySlot (t .keys) (keyOf (nodeAt t p) c)) t p c node) .step)
+      by-root true e = only-first t p c e .1
       by-root false e = slot-leads-inside (emptySlot (t .keys) (keyOf (nodeAt t p) c)) refl
 
   pub new-inside : (r : Step) (u : CharTrie) (q : ParentRef) → stepped r u ≡ newStep t p c node → r ≡ At q → Inside (length (t .rootChildren)) (length (t .keys)) q
-  new-inside r u q made e = subst (StepInside (length (t .rootChildren)) (length (t .keys))) (sym (ap (λ (x : Stepped). x .step) made) ∙ e) leads-inside
+  new-inside r u q made e = subst (LeadsInside t) (sym (ap (λ (x : Stepped). x .step) made) ∙ e) leads-inside
 
 -- ---- a chain of them
 

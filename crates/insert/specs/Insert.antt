@@ -1,7 +1,7 @@
 -- Insertion as the code takes it apart. What an insertion is says `Trie.insert`, from document 01. It goes in two parts: the steps that are there get
 -- their bits, and then the steps that are not there are made. Here each part has a definition of its own; `Claims` says that they come to `Trie.insert`.
 -- Assumes nothing.
-use Prim.Native.Nat.{ℕ, _-_, _<_}
+use Prim.Native.Nat.{ℕ, _-_}
 use mathlib.Core.Bool.{cond}
 use mathlib.Core.List.{List, [], _∷_}
 use mathlib.Core.Option.{Option·getD, IsSome}
@@ -10,22 +10,17 @@ use lib.IntN.{ℤ}
 use lib.ListN.{drop}
 use Rattle.utf8.specs.Text.{charsOf}
 use Rattle.trie.specs.declared.ParentRef.{ParentRef}
-use Rattle.trie.specs.declared.ParentRef.the-variants.{Root, RootEntry, Slot}
+use Rattle.trie.specs.declared.ParentRef.the-variants.{RootEntry, Slot}
 use Rattle.trie.specs.declared.Probe.{Probe}
 use Rattle.trie.specs.declared.Probe.the-variants.{Found, Empty, Endless}
 use Rattle.trie.specs.declared.Step.{Step}
 use Rattle.trie.specs.declared.Step.the-variants.{At, Nothing, Damaged}
 use Rattle.trie.specs.Trie.{CharTrie, log2, SlotCount, keyOf, nodeAt, fromRoot, openStep, Reach, Reached, NoEnd, withBits, newRootEntry, newSlot, emptySlot, extend}
+use Rattle.walk.specs.Walk.{Inside}
 use Rattle.insert.specs.declared.Marked.{Marked}
 use Rattle.insert.specs.declared.Marked.the-variants.{UpTo}
 
 -- ---- the tables and the word, as they are lent
-
--- a place is the root, one of so many root entries, or one of so many slots
-unfoldable pub Inside : ℕ → ℕ → ParentRef → Type 0
-Inside entries slots Root = Unit {0}
-Inside entries slots (RootEntry i) = i < entries
-Inside entries slots (Slot i) = i < slots
 
 -- the characters of a text; none where it is malformed, which no caller lends
 unfoldable pub characters : List ℕ → List ℕ

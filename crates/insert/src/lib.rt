@@ -17,16 +17,14 @@ ghost use lib.ListN.{length, drop};
 ghost use Rattle.utf8.specs.Text.{charsOf};
 ghost use Rattle.trie.specs.declared.ParentRef.the-variants.{Root};
 ghost use Rattle.trie.specs.Trie as Trie;
-ghost use Rattle.trie.specs.Trie.{trieOf, log2, SlotCount, nodeAt, fromRoot, openStep, withBits, withWord, newRootEntry, newSlot};
+ghost use Rattle.trie.specs.Trie.{trieOf, log2, SlotCount, withBits, withWord, newRootEntry, newSlot};
 ghost use Rattle.trie.specs.Lent.{was, became, trieLent, trieLeft};
+ghost use Rattle.walk.specs.Walk.{Inside};
 ghost use Rattle.insert.specs.Insert as Insert;
-ghost use Rattle.insert.specs.Insert.{characters, Inside, Sizes, marked, reachOf, Ready, stepped, newStep};
+ghost use Rattle.insert.specs.Insert.{characters, Sizes, marked, reachOf, Ready, stepped, newStep};
 use trie::ParentRef;
 use trie::Probe;
 use trie::Step;
-
-// 2^24: a child's node is what is below it.
-const NODES: u32 = 0x100_0000;
 
 // The word number of a step at which no word ends.
 const NO_WORD: i32 = -1;
@@ -37,64 +35,6 @@ pub enum Marked {
     UpTo(ParentRef, usize),
     // A probe without an end: the book is damaged.
     Damaged,
-}
-
-// The node at a place.
-fn node_at(root_children: &[u32], children: &[u32], place: ParentRef) -> u32
-    requires { ⌜ Inside (length (now «root_children»)) (length (now children)) place ⌝ }
-    ensures { λ r. ⌜
-        ((rootWords words : List ℤ) (keys : List ℕ)
-        → r ≡ nodeAt (trieOf (was «root_children») rootWords keys (was children) words) place)
-        ⌝ }
-{
-    match place {
-        ParentRef::Root => 0,
-        ParentRef::RootEntry(i) => root_children[i] % NODES,
-        ParentRef::Slot(i) => children[i] % NODES,
-    }
-}
-
-// Whether a step uses the root table: that of a first character that has an entry there.
-fn from_root(root_children: &[u32], place: ParentRef, ch: u32) -> bool
-    ensures { λ r. ⌜
-        ((rootWords words : List ℤ) (keys children : List ℕ)
-        → r ≡ fromRoot (trieOf (was «root_children») rootWords keys children words) place ch)
-        ⌝ }
-{
-    match place {
-        ParentRef::Root => (ch as usize) < root_children.len(),
-        ParentRef::RootEntry(_) => false,
-        ParentRef::Slot(_) => false,
-    }
-}
-
-// Where the step on a character leads. An insertion tests no bits.
-fn open_step(
-    root_children: &[u32],
-    keys: &[u64],
-    children: &[u32],
-    shift: u32,
-    place: ParentRef,
-    ch: u32,
-) -> Step
-    requires { ⌜ SlotCount (length (now keys)) ⌝ }
-    requires { ⌜ shift ≡ 64 - log2 (length (now keys)) ⌝ }
-    requires { ⌜ Inside (length (now «root_children»)) (length (now children)) place ⌝ }
-    requires { ⌜ ch < 2 ^ 21 ⌝ }
-    ensures { λ r. ⌜
-        ((rootWords words : List ℤ)
-        → r ≡ openStep (trieOf (was «root_children») rootWords (was keys) (was children) words) place ch)
-        ⌝ }
-{
-    if from_root(root_children, place, ch) {
-        let i = ch as usize;
-        if root_children[i] == 0 {
-            return Step::Nothing;
-        }
-        return Step::At(ParentRef::RootEntry(i));
-    }
-    let node = node_at(root_children, children, place);
-    trie::char_trie::slot_step(keys, shift, node, ch)
 }
 
 // A place gains a character's filter bits: a slot both, a root entry the child's, the root neither.
@@ -206,7 +146,7 @@ fn mark(
     let mut at: usize = 0;
     while at < s.len() {
         let next = utf8::next_char(s, at);
-        match open_step(root_children, keys, children, shift, place, next.value) {
+        match walk::open_step(root_children, keys, children, shift, place, next.value) {
             Step::At(child) => {
                 set_bits(root_children, keys, children, place, next.value);
                 place = child;
@@ -239,12 +179,12 @@ fn new_step(
         ≡ newStep (trieLent «root_children» «root_words» keys children words) place ch node
         ⌝ }
 {
-    if from_root(root_children, place, ch) {
+    if walk::from_root(root_children, place, ch) {
         let i = ch as usize;
         new_root_entry(root_children, root_words, i, node);
         return Step::At(ParentRef::RootEntry(i));
     }
-    let key = trie::key(node_at(root_children, children, place), ch);
+    let key = trie::key(walk::node_at(root_children, children, place), ch);
     let Probe::Empty(i) = trie::char_trie::first_empty(keys, shift, key) else {
         return Step::Damaged;
     };

@@ -1,16 +1,14 @@
 -- What new steps take for all characters of a text: as many nodes as characters, and as many slots, or one less where the root table serves the
 -- first character. The text has a first character, so that one less is a number. Assumes nothing.
-use Prim.Native.Nat.{ℕ, suc, _-_, _≤_, _<_}
+use Prim.Native.Nat.{ℕ, suc, _-_, _≤_}
 use mathlib.Core.Path.{_≡_, sym, ap₂, _∙_}
-use mathlib.Core.Bool.{true, false}
+use mathlib.Core.Bool.{Bool, true, false}
 use mathlib.Core.List.{List, [], _∷_}
 use mathlib.Core.Option.{Option, none, some}
 use native.Mathlib.Omega.{arith}
-use borrow.Author.Tests.{lt-ltb, le-ltb}
 use lib.IntN.{ℤ}
 use lib.ListN.{length}
 use Rattle.trie.specs.declared.ParentRef.{ParentRef}
-use Rattle.trie.specs.declared.ParentRef.the-variants.{Root, RootEntry, Slot}
 use Rattle.trie.specs.Trie.{CharTrie, fromRoot, newSlots, trieOf}
 use Rattle.utf8.specs.declared.CharCount.{CharCount}
 use Rattle.utf8.specs.declared.CharCount.the-variants.{Chars}
@@ -62,18 +60,10 @@ module _ (rootChildren : List ℕ) (place : ParentRef) (ch : ℕ) (chars : Optio
   long : length cs ≡ n
   long = let counts : Chars (length cs) ≡ Chars n = sym (rw all at counted) ∙ is-count in cc
 
-  pub new-at-root : place ≡ Root → ch < length rootChildren → Partly (n - 1) n ≡ newSteps t place cs
-  unfolding fromRoot
-  new-at-root e below = served t place ch n cs first long (rw e (lt-ltb _ _ below))
+  module _ (b : Bool)
+      (tested : (rootWords′ words′ : List ℤ) (keys′ children′ : List ℕ) → b ≡ fromRoot (trieOf rootChildren rootWords′ keys′ children′ words′) place ch) where
+    pub new-from-root : b ≡ true → Partly (n - 1) n ≡ newSteps t place cs
+    new-from-root root = served t place ch n cs first long (sym (tested rootWords words keys children) ∙ root)
 
-  pub new-beyond-root : place ≡ Root → length rootChildren ≤ ch → Partly n n ≡ newSteps t place cs
-  unfolding fromRoot
-  new-beyond-root e beyond = unserved t place ch n cs first long (rw e (le-ltb _ _ beyond))
-
-  pub new-at-entry : (i : ℕ) → place ≡ RootEntry i → Partly n n ≡ newSteps t place cs
-  unfolding fromRoot
-  new-at-entry i e = unserved t place ch n cs first long (rw e)
-
-  pub new-at-slot : (i : ℕ) → place ≡ Slot i → Partly n n ≡ newSteps t place cs
-  unfolding fromRoot
-  new-at-slot i e = unserved t place ch n cs first long (rw e)
+    pub new-below : b ≡ false → Partly n n ≡ newSteps t place cs
+    new-below root = unserved t place ch n cs first long (sym (tested rootWords words keys children) ∙ root)

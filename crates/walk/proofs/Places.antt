@@ -1,11 +1,12 @@
 -- Places, and steps from them. A root entry is reached only by a character below the root's length, and a slot only by a probe, which ends
--- within the slots: so every step leads to a place of the tables. From each kind of place a step is what the code works out there: from the
--- root `firstStep`, from a root entry or a slot one from its child, with the bits of the key and the child first in a lookup.
--- Assumes nothing.
+-- within the slots: so every step leads to a place of the tables. A lookup's step is what the code works out from each kind of place: from the root
+-- `firstStep`, from a root entry or a slot one from its child, with the bits of the key and the child first. An insertion's is `firstStep` where it uses
+-- the root table, and else what the probe for the place's node says. Assumes nothing.
 use Prim.Native.Nat.{ℕ, _%_, _^_, _≤_, _<_}
 use mathlib.Core.Path.{_≡_, refl, sym, _∙_, subst}
 use mathlib.Core.Bool.{Bool, true, false, cond, false≢true}
 use mathlib.Core.List.{List, [], _∷_}
+use native.Mathlib.Omega.{arith}
 use borrow.Author.Tests.{ltb-true, lt-ltb, le-ltb, eq-eqb, ne-eqb}
 use lib.Dec.{ltb, eqb}
 use lib.IntN.{ℤ}
@@ -39,10 +40,18 @@ pub first-step-is-tested : FirstStepIsTested
 unfolding testedStep bitsAt
 first-step-is-tested t ch = first-step-is-open t ch
 
+-- ---- a step uses the root table only from the root, and where the character has an entry there
+
+pub only-first : (t : CharTrie) (p : ParentRef) (ch : ℕ) → fromRoot t p ch ≡ true → (p ≡ Root) × (ch < length (t .rootChildren))
+unfolding fromRoot
+only-first t Root ch e = (refl, ltb-true ch (length (t .rootChildren)) e)
+only-first t (RootEntry i) ch e = absurd (false≢true e)
+only-first t (Slot i) ch e = absurd (false≢true e)
+
 -- ---- steps stay inside
 
 -- where a step leads, if anywhere, is a place of the tables
-abbrev LeadsInside : CharTrie → Step → Type 0
+abbrev pub LeadsInside : CharTrie → Step → Type 0
 LeadsInside t (At q) = Inside (length (t .rootChildren)) (length (t .keys)) q
 LeadsInside t Nothing = Unit {0}
 LeadsInside t Damaged = Unit {0}
@@ -60,10 +69,7 @@ module _ (t : CharTrie) (allowed : SlotCount (length (t .keys))) where
   by-entry ch false below = below
 
   by-root : (p : ParentRef) (ch : ℕ) (root : Bool) → fromRoot t p ch ≡ root → LeadsInside t (elim root [ true ↦ rootStep t ch | false ↦ slotStep t p ch ])
-  unfolding fromRoot
-  by-root Root ch true e = by-entry ch (eqb (getD (t .rootChildren) ch 0) 0) (ltb-true _ _ e)
-  by-root (RootEntry i) ch true e = absurd (false≢true e)
-  by-root (Slot i) ch true e = absurd (false≢true e)
+  by-root p ch true e = by-entry ch (eqb (getD (t .rootChildren) ch 0) 0) (only-first t p ch e .1)
   by-root p ch false e = by-probe (keyOf (nodeAt t p) ch) (probeOf (t .keys) (keyOf (nodeAt t p) ch)) refl
 
   open-inside : (p : ParentRef) (ch : ℕ) → LeadsInside t (openStep t p ch)
@@ -127,6 +133,58 @@ module _ (roots slots i : ℕ) (place : ParentRef) (inside : Inside roots slots 
   unfolding Inside
   slot-inside n same e = rw same (rw e at inside)
 
+-- lengths that are the same keep a place inside
+pub inside-same : (roots slots roots′ slots′ : ℕ) (p : ParentRef) → roots′ ≡ roots → slots′ ≡ slots → Inside roots slots p → Inside roots′ slots′ p
+inside-same roots slots roots′ slots′ p e s inside = rw (e, s) inside
+
+-- ---- the node at a place, and whether a step from it uses the root table, as the code finds them
+
+module _ (rootChildren : List ℕ) (rootWords : List ℤ) (keys children : List ℕ) (words : List ℤ) (place : ParentRef) where
+  abbrev tables : CharTrie
+  tables = trieOf rootChildren rootWords keys children words
+
+  pub node-root : place ≡ Root → 0 ≡ nodeAt tables place
+  unfolding nodeAt
+  node-root e = rw e
+
+  pub node-entry : (i : ℕ) → place ≡ RootEntry i → getD rootChildren i 0 % 2 ^ 24 ≡ nodeAt tables place
+  unfolding nodeAt
+  node-entry i e = rw e
+
+  pub node-slot : (i : ℕ) → place ≡ Slot i → getD children i 0 % 2 ^ 24 ≡ nodeAt tables place
+  unfolding nodeAt
+  node-slot i e = rw e
+
+  module _ (ch : ℕ) where
+    pub root-tested : place ≡ Root → ltb ch (length rootChildren) ≡ fromRoot tables place ch
+    unfolding fromRoot
+    root-tested e = rw e
+
+    pub entry-not-root : (i : ℕ) → place ≡ RootEntry i → false ≡ fromRoot tables place ch
+    unfolding fromRoot
+    entry-not-root i e = rw e
+
+    pub slot-not-root : (i : ℕ) → place ≡ Slot i → false ≡ fromRoot tables place ch
+    unfolding fromRoot
+    slot-not-root i e = rw e
+
+-- what they find depends on no other table: the entry of a first character lies inside, and a node has 24 bits
+pub has-entry : (rootChildren : List ℕ) (ch : ℕ) (p : ParentRef) (b : Bool)
+    → ((rootWords words : List ℤ) (keys children : List ℕ) → b ≡ fromRoot (trieOf rootChildren rootWords keys children words) p ch)
+    → b ≡ true → ch < length rootChildren
+has-entry rootChildren ch p b tested e = only-first (trieOf rootChildren [] [] [] []) p ch (sym (tested [] [] [] []) ∙ e) .1
+
+module _ (rootChildren children : List ℕ) where
+  node-of : (p : ParentRef) → nodeAt (trieOf rootChildren [] [] children []) p < 2 ^ 24
+  unfolding nodeAt
+  node-of Root = omega arith
+  node-of (RootEntry i) = omega arith
+  node-of (Slot i) = omega arith
+
+  pub node-below : (p : ParentRef) (node : ℕ)
+      → ((rootWords words : List ℤ) (keys : List ℕ) → node ≡ nodeAt (trieOf rootChildren rootWords keys children words) p) → node < 2 ^ 24
+  node-below p node is = rw (is [] [] []) (node-of p)
+
 -- ---- the root's step as the code takes it
 
 module _ (rootChildren keys : List ℕ) (ch : ℕ) where
@@ -151,9 +209,6 @@ module _ (rootChildren : List ℕ) (rootWords : List ℤ) (keys children : List 
   pub tested-at-root : place ≡ Root → r ≡ firstStep rootChildren keys ch → r ≡ testedStep t place ch
   tested-at-root e step = rw e (step ∙ sym (first-step-is-tested t ch))
 
-  pub open-at-root : place ≡ Root → r ≡ firstStep rootChildren keys ch → r ≡ openStep t place ch
-  open-at-root e step = rw e (step ∙ sym (first-step-is-open t ch))
-
   module _ (i : ℕ) where
     pub tested-at-entry : place ≡ RootEntry i → r ≡ stepFrom keys allOnes (getD rootChildren i 0) ch → r ≡ testedStep t place ch
     tested-at-entry e step = rw e (step ∙ sym (steps-from-root-entry t i ch))
@@ -161,13 +216,13 @@ module _ (rootChildren : List ℕ) (rootWords : List ℤ) (keys children : List 
     pub tested-at-slot : place ≡ Slot i → r ≡ stepFrom keys (getD keys i 0) (getD children i 0) ch → r ≡ testedStep t place ch
     tested-at-slot e step = rw e (step ∙ sym (steps-from-slot t i ch))
 
-    pub open-at-entry : place ≡ RootEntry i → r ≡ stepByProbe (probeOf keys (keyOf (getD rootChildren i 0 % 2 ^ 24) ch)) → r ≡ openStep t place ch
-    unfolding openStep fromRoot nodeAt
-    open-at-entry e step = rw e step
+  module _ (b : Bool) (tested : b ≡ fromRoot t place ch) where
+    pub open-at-root : b ≡ true → r ≡ firstStep rootChildren keys ch → r ≡ openStep t place ch
+    open-at-root root step = rw (only-first t place ch (sym tested ∙ root) .0) (step ∙ sym (first-step-is-open t ch))
 
-    pub open-at-slot : place ≡ Slot i → r ≡ stepByProbe (probeOf keys (keyOf (getD children i 0 % 2 ^ 24) ch)) → r ≡ openStep t place ch
-    unfolding openStep fromRoot nodeAt
-    open-at-slot e step = rw e step
+    pub open-at-node : (node : ℕ) → b ≡ false → node ≡ nodeAt t place → r ≡ stepByProbe (probeOf keys (keyOf node ch)) → r ≡ openStep t place ch
+    unfolding openStep
+    open-at-node node root is step = rw (← tested, root, openStep, ← is) step
 
 module _ (rootChildren : List ℕ) (rootWords : List ℤ) (keys children : List ℕ) (words : List ℤ) (used : ℕ) (place : ParentRef) where
   abbrev t′ : CharTrie

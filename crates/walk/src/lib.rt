@@ -9,7 +9,7 @@ ghost use mathlib.Core.Option.{IsSome, some};
 ghost use lib.IntN.{ℤ};
 ghost use lib.ListN.{length};
 ghost use Prim.Native.Nat.{ℕ, _-_, _^_, _<_};
-ghost use Rattle.trie.specs.Trie.{log2, SlotCount, openStep, testedStep, wordAt, trieOf};
+ghost use Rattle.trie.specs.Trie.{log2, SlotCount, nodeAt, fromRoot, openStep, testedStep, wordAt, trieOf};
 ghost use Rattle.trie.specs.declared.ParentRef.the-variants.{Root};
 ghost use Rattle.trie.specs.Lent.{was, trieLent};
 ghost use Rattle.utf8.specs.Text.{charsOf};
@@ -32,6 +32,35 @@ pub enum Room {
     Whole(WordNumber),
     // The slots and the nodes that the missing steps take.
     Partly(usize, usize),
+}
+
+// The node at a place.
+pub fn node_at(root_children: &[u32], children: &[u32], place: ParentRef) -> u32
+    requires { ⌜ Inside (length (now «root_children»)) (length (now children)) place ⌝ }
+    ensures { λ r. ⌜
+        ((rootWords words : List ℤ) (keys : List ℕ)
+        → r ≡ nodeAt (trieOf (was «root_children») rootWords keys (was children) words) place)
+        ⌝ }
+{
+    match place {
+        ParentRef::Root => 0,
+        ParentRef::RootEntry(i) => root_children[i] % trie::NODES,
+        ParentRef::Slot(i) => children[i] % trie::NODES,
+    }
+}
+
+// Whether a step uses the root table: that of a first character that has an entry there.
+pub fn from_root(root_children: &[u32], place: ParentRef, ch: u32) -> bool
+    ensures { λ r. ⌜
+        ((rootWords words : List ℤ) (keys children : List ℕ)
+        → r ≡ fromRoot (trieOf (was «root_children») rootWords keys children words) place ch)
+        ⌝ }
+{
+    match place {
+        ParentRef::Root => (ch as usize) < root_children.len(),
+        ParentRef::RootEntry(_) => false,
+        ParentRef::Slot(_) => false,
+    }
 }
 
 // The root's step: by the root table, or among the slots where the table is too short.
@@ -89,16 +118,10 @@ pub fn open_step(
     requires { ⌜ Inside (length (now «root_children»)) (length (now keys)) place × (ch < 2 ^ 21) ⌝ }
     ensures { λ r. ⌜ ((rootWords words : List ℤ) → r ≡ openStep (trieOf (was «root_children») rootWords (was keys) (was children) words) place ch) ⌝ }
 {
-    match place {
-        ParentRef::Root => root_step(root_children, keys, shift, ch),
-        ParentRef::RootEntry(i) => char_trie::slot_step(
-            keys,
-            shift,
-            root_children[i] % trie::NODES,
-            ch,
-        ),
-        ParentRef::Slot(i) => char_trie::slot_step(keys, shift, children[i] % trie::NODES, ch),
+    if from_root(root_children, place, ch) {
+        return root_step(root_children, keys, shift, ch);
     }
+    char_trie::slot_step(keys, shift, node_at(root_children, children, place), ch)
 }
 
 // What the word number at a place says.
@@ -177,17 +200,11 @@ fn new_steps(root_children: &[u32], place: ParentRef, ch: u32, s: &[u8]) -> Room
     let CharCount::Chars(nodes) = utf8::char_count(s) else {
         return Room::Damaged;
     };
-    match place {
-        ParentRef::Root => {
-            if (ch as usize) < root_children.len() {
-                let slots = nodes - 1;
-                return Room::Partly(slots, nodes);
-            }
-            Room::Partly(nodes, nodes)
-        }
-        ParentRef::RootEntry(_) => Room::Partly(nodes, nodes),
-        ParentRef::Slot(_) => Room::Partly(nodes, nodes),
+    if from_root(root_children, place, ch) {
+        let slots = nodes - 1;
+        return Room::Partly(slots, nodes);
     }
+    Room::Partly(nodes, nodes)
 }
 
 // What the word s finds when it is new to the lookup: the insertion's walk, which tests no bits and writes nothing.

@@ -12,7 +12,8 @@ use borrow.Author.Needs.{needs}
 use Rattle.utf8.proofs.Positions.{inside, value-below}
 use Rattle.trie.specs.Trie.{trieOf, extend}
 use Rattle.insert.specs.Insert.{characters}
-use Rattle.insert.proofs.Inside.{inside-same, sizes-same}
+use Rattle.walk.proofs.Places.{inside-same}
+use Rattle.insert.proofs.Sizes.{sizes-same}
 use Rattle.insert.proofs.Extensions.{Extending, begins, ends, stops, goes-on}
 use Rattle.insert.proofs.extend.Statement.{statement}
 use Rattle.insert.proofs.extend.Tie as tie

@@ -2,7 +2,8 @@
 use mathlib.Core.Path.{refl}
 use mir.Facts.{toZ-ofZ}
 use borrow.Author.Needs.{needs}
-use Rattle.insert.proofs.Inside.{inside-same, sizes-same}
+use Rattle.walk.proofs.Places.{inside-same}
+use Rattle.insert.proofs.Sizes.{sizes-same}
 use Rattle.insert.proofs.Marks.{inserted, not-inserted, place-ready, rest-ready}
 use Rattle.insert.proofs.insert.Statement.{statement}
 use Rattle.insert.proofs.insert.Tie as tie

@@ -6,7 +6,8 @@ use native.Mathlib.Omega.{arith}
 use lib.ListN.{length}
 use borrow.Author.Needs.{needs}
 use Rattle.utf8.proofs.Positions.{inside, value-below}
-use Rattle.insert.proofs.Inside.{inside-same, slots-same, shift-same}
+use Rattle.walk.proofs.Places.{inside-same}
+use Rattle.insert.proofs.Sizes.{slots-same, shift-same}
 use Rattle.insert.proofs.Marks.{Marking, begins, ends, ends-absent, ends-damaged, goes-on}
 use Rattle.insert.proofs.mark.Statement.{statement}
 use Rattle.insert.proofs.mark.Tie as tie
@@ -29,10 +30,10 @@ open-step-requires c κs =
     let loop = read .before .before in
     let start = loop .before .before .before .before .before in
     let here = loop .loop .inv in (
-      slots-same _ _ (here .slots) (start .pre .0),
+      (here .child-slots ∙ start .pre .1 .1 .0 ∙ sym (here .slots), slots-same _ _ (here .slots) (start .pre .0)),
       (
         shift-same _ _ (here .slots) _ (start .pre .1 .0),
-        (inside-same _ _ _ _ _ (here .entries) (here .child-slots ∙ start .pre .1 .1 .0) (here .inside), value-below _ _ _ _ (read .next-char .ensures)),
+        (inside-same _ _ _ _ _ (here .entries) (here .slots) (here .inside), value-below _ _ _ _ (read .next-char .ensures)),
       ),
     )
 

@@ -2,7 +2,7 @@
 -- (`NewSteps`). The slot is still inside the tables after the bits are set, which keeps their lengths. Assumes nothing.
 use native.Mathlib.Omega.{arith}
 use borrow.Author.Needs.{needs}
-use Rattle.insert.proofs.Inside.{inside-same, has-entry, node-below}
+use Rattle.walk.proofs.Places.{inside-same, has-entry, node-below}
 use Rattle.insert.proofs.NewSteps.{empty-below, new-entry-made, no-empty-slot, new-slot-made}
 use Rattle.insert.proofs.new_step.Statement.{statement}
 use Rattle.insert.proofs.new_step.Tie as tie

@@ -1,7 +1,7 @@
 -- `insert::set_bits` meets its contract: each place is a case of `withBits`, and its index lies inside the tables (`Places`). Assumes nothing.
 use borrow.Author.Needs.{needs}
 use Rattle.trie.proofs.Steps.{key-bit-below, child-bit-below}
-use Rattle.insert.proofs.Inside.{entry-inside, slot-inside}
+use Rattle.walk.proofs.Places.{entry-inside, slot-inside}
 use Rattle.insert.proofs.Places.{bits-root, bits-entry, bits-slot}
 use Rattle.insert.proofs.set_bits.Statement.{statement}
 use Rattle.insert.proofs.set_bits.Tie as tie

@@ -2,7 +2,7 @@
 -- its 32 bits, which give it back. Assumes nothing.
 use borrow.Author.Needs.{needs}
 use mir.Facts.{toZ-ofZ}
-use Rattle.insert.proofs.Inside.{entry-inside, slot-inside}
+use Rattle.walk.proofs.Places.{entry-inside, slot-inside}
 use Rattle.insert.proofs.Places.{word-root, word-entry, word-slot}
 use Rattle.insert.proofs.set_word.Statement.{statement}
 use Rattle.insert.proofs.set_word.Tie as tie

@@ -1,8 +1,8 @@
--- `insert::from_root` meets its contract: each place is a case of `fromRoot` (`Places`). Assumes nothing.
+-- `walk::from_root` meets its contract: each place is a case of `fromRoot` (`Places`). Assumes nothing.
 use borrow.Author.Needs.{needs}
-use Rattle.insert.proofs.Places.{root-tested, entry-not-root, slot-not-root}
-use Rattle.insert.proofs.from_root.Statement.{statement}
-use Rattle.insert.proofs.from_root.Tie as tie
+use Rattle.walk.proofs.Places.{root-tested, entry-not-root, slot-not-root}
+use Rattle.walk.proofs.from_root.Statement.{statement}
+use Rattle.walk.proofs.from_root.Tie as tie
 
 enum-told : tie.Need-enum-told
 enum-told c = search needs

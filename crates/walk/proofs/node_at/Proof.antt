@@ -1,9 +1,8 @@
--- `insert::node_at` meets its contract: each place is a case of `nodeAt`, and its index lies inside the table (`Places`). Assumes nothing.
+-- `walk::node_at` meets its contract: each place is a case of `nodeAt`, and its index lies inside the table (`Places`). Assumes nothing.
 use borrow.Author.Needs.{needs}
-use Rattle.insert.proofs.Inside.{entry-inside, slot-inside}
-use Rattle.insert.proofs.Places.{node-root, node-entry, node-slot}
-use Rattle.insert.proofs.node_at.Statement.{statement}
-use Rattle.insert.proofs.node_at.Tie as tie
+use Rattle.walk.proofs.Places.{entry-inside, slot-inside, node-root, node-entry, node-slot}
+use Rattle.walk.proofs.node_at.Statement.{statement}
+use Rattle.walk.proofs.node_at.Tie as tie
 
 enum-told : tie.Need-enum-told
 enum-told c = search needs
