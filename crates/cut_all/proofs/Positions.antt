@@ -6,11 +6,10 @@ use Prim.Native.Nat.{ℕ, _+_, _≤_, _<_}
 use mathlib.Core.Bool.{Bool, true, false, cond}
 use mathlib.Core.List.{List, [], _∷_}
 use mathlib.Core.Path.{_≡_, refl, sym, ap, _∙_}
-use native.Mathlib.Numerals.{add-one}
 use native.Mathlib.Omega.{arith}
 use lib.IntN.{ℤ}
-use lib.ListN.{length, getD, take, drop, drop-of-length-le}
-use lib.Seq.{drop-cons, length-take-le}
+use lib.ListN.{length, take, drop}
+use lib.Seq.{length-take-le}
 use Rattle.trie.specs.Trie.{trieOf}
 use Rattle.book.specs.declared.Outcome.the-variants.{Done, Damaged}
 use Rattle.book.specs.Returns.{Book, isDone}
@@ -21,20 +20,10 @@ use Rattle.cuts.specs.Edges.{walksOf}
 use Rattle.cuts.specs.Tokens.{Written, written}
 use Rattle.cuts.specs.Cuts.{CutAnswer, answer, cutAnswer, andThen, Base, putSpans, spansOf, putWalks}
 use Rattle.cuts.proofs.Sequence.{goes-on, stops, then-alike, then-after}
+use Rattle.cuts.proofs.Walks.{no-more-walks, first-walk}
 use Rattle.cut_all.specs.Areas.{putWalk}
 
--- ---- walks from the positions of a block, the first before the others
-
-module _ (words : ℕ → List ℕ → Walked) (at : ℕ) (cs : List ℕ) where
-  no-more-walks : length cs ≤ at → walksOf words at (drop at cs) ≡ []
-  unfolding walksOf
-  no-more-walks past = rw (drop-of-length-le cs {i = at} past)
-
-  first-walk : at < length cs → walksOf words at (drop at cs) ≡ words at (drop at cs) ∷ walksOf words (at + 1) (drop (at + 1) cs)
-  unfolding walksOf
-  first-walk more =
-      let split : drop at cs ≡ getD cs at 0 ∷ drop (at + 1) cs = drop-cons cs at 0 more ∙ rw (add-one at) in
-      ap (walksOf words at) split ∙ ap (λ (l : List ℕ). words at l ∷ walksOf words (at + 1) (drop (at + 1) cs)) (sym split)
+-- ---- the words of a first walk, and then those of the others
 
 module _ (base : Base) (cs : List ℕ) (at : ℕ) where
   put-no-walks : (w : Written) → putWalks base cs at w [] ≡ answer Done w

@@ -1,3 +1,4 @@
 -- What is proved of the definitions of the cuts.
 pub mod Examples
 pub mod Sequence
+pub mod Walks

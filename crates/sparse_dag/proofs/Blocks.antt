@@ -12,8 +12,8 @@ use native.Mathlib.Omega.{arith}
 use borrow.Author.Tests.{lt-ltb, le-ltb}
 use lib.Ieee.{Float}
 use lib.IntN.{ℤ}
-use lib.ListN.{length, getD, set, take, drop, length-set, drop-of-length-le}
-use lib.Seq.{drop-cons, length-take-le, getD-set-same, getD-set-other}
+use lib.ListN.{length, getD, set, take, drop, length-set}
+use lib.Seq.{length-take-le, getD-set-same, getD-set-other}
 use Rattle.score.proofs.Tests.{by-leb}
 use Rattle.trie.specs.Trie.{CharTrie, trieOf}
 use Rattle.book.specs.declared.Outcome.{Outcome}
@@ -24,23 +24,13 @@ use Rattle.book.specs.Prefixes.{Edge, Walked, wordsFrom}
 use Rattle.route.specs.Slices.{edgesFrom, edgesAt, rowsFrom, EdgeOf}
 use Rattle.cuts.specs.Edges as Cuts
 use Rattle.cuts.specs.Edges.{edges, stopped, walksOf, before, edgesWithin}
+use Rattle.cuts.proofs.Walks.{no-more-walks, first-walk}
 use Rattle.sparse_dag.specs.declared.Prefixes.{Prefixes}
 use Rattle.sparse_dag.specs.declared.Prefixes.the-variants.{Edges, Full}
 use Rattle.sparse_dag.specs.Edges.{Kept, Pushed, WalkedAt, WalkedBlock}
 use Rattle.sparse_dag.proofs.Slices.{edges-long, edges-same, rows-same, rows-one-more}
 
--- ---- walks from the positions of a block, the first before the others
-
-module _ (b : Book) (at : ℕ) (cs : List ℕ) where
-  no-more-walks : length cs ≤ at → walksOf (wordsFrom b) at (drop at cs) ≡ []
-  unfolding walksOf
-  no-more-walks past = rw (drop-of-length-le cs {i = at} past)
-
-  first-walk : at < length cs → walksOf (wordsFrom b) at (drop at cs) ≡ wordsFrom b at (drop at cs) ∷ walksOf (wordsFrom b) (at + 1) (drop (at + 1) cs)
-  unfolding walksOf
-  first-walk more =
-      let split : drop at cs ≡ getD cs at 0 ∷ drop (at + 1) cs = drop-cons cs at 0 more ∙ rw (add-one at) in
-      ap (walksOf (wordsFrom b) at) split ∙ ap (λ (l : List ℕ). wordsFrom b at l ∷ walksOf (wordsFrom b) (at + 1) (drop (at + 1) cs)) (sym split)
+-- ---- the edges of a first walk, and then those of the others
 
 module _ (room : ℕ) (w : Walked) (ws : List Walked) where
   -- a walk with room for its edges
@@ -153,7 +143,7 @@ module _ {rootChildren : List ℕ} {rootWords : List ℤ} {keys children : List 
   ends-here past in-ends in-records b trie in-use logarithms =
       let there : at ≡ n = omega (arith, now .last) in (
         now .same b trie in-use
-            ∙ ap (λ (ws : List Walked). joined (soFar b) (edgesWithin (room - count) ws)) (no-more-walks b at cs (omega (arith, cs-long)))
+            ∙ ap (λ (ws : List Walked). joined (soFar b) (edgesWithin (room - count) ws)) (no-more-walks (wordsFrom b) at cs (omega (arith, cs-long)))
             ∙ ap edges (append-nil (soFar b))
             ∙ ap (λ (k : ℕ). edges (rowsFrom starts ends records (b .logarithms) 0 k)) there,
         record {
@@ -176,7 +166,7 @@ module _ {rootChildren : List ℕ} {rootWords : List ℤ} {keys children : List 
         → edgesWithin room (walksOf (wordsFrom b) 0 cs) ≡ joined (soFar b) (edgesWithin (room - count) (wordsFrom b at (drop at cs) ∷ walksOf (wordsFrom b) (at + 1) (drop (at + 1) cs)))
     by-first b trie in-use =
         now .same b trie in-use
-        ∙ ap (λ (ws : List Walked). joined (soFar b) (edgesWithin (room - count) ws)) (first-walk b at cs (omega (arith, cs-long)))
+        ∙ ap (λ (ws : List Walked). joined (soFar b) (edgesWithin (room - count) ws)) (first-walk (wordsFrom b) at cs (omega (arith, cs-long)))
 
     -- the walk from here finds no place for an edge
     pub ends-full : r ≡ Full → (b : Book) → b .trie ≡ tables → b .head .records ≡ used → edgesWithin room (walksOf (wordsFrom b) 0 cs) ≡ stopped EdgesFull

@@ -7,7 +7,8 @@ use native.Mathlib.Omega.{arith}
 use borrow.Author.Needs.{needs}
 use borrow.Author.Tests.{not-true, not-false}
 use Rattle.walk.proofs.Places.{word-inside}
-use Rattle.cut_all.proofs.Walks.{Walking, begins, next-inside, ends-here, ends-nothing, ends-damaged, ends-bad, ends-full, goes-past, goes-behind}
+use Rattle.cuts.proofs.Walks.{next-inside}
+use Rattle.cut_all.proofs.Walks.{Walking, begins, ends-here, ends-nothing, ends-damaged, ends-bad, ends-full, goes-past, goes-behind}
 use Rattle.cut_all.proofs.words_at.Statement.{statement}
 use Rattle.cut_all.proofs.words_at.Tie as tie
 
@@ -36,7 +37,7 @@ tested-step-requires : tie.Need-tested-step-requires Inv-loop μ-loop
 tested-step-requires c κs =
     let loop = c .before .before in
     let entry = start loop in
-    ((entry .pre .0 .slotChildren, entry .pre .1 .0 .0), (entry .pre .1 .0 .1, (loop .loop .inv .inside, entry .pre .1 .1 .3 _ (c .before .loop-test .taken))))
+    ((entry .pre .0 .slotChildren, entry .pre .1 .0 .0), (entry .pre .1 .0 .1, (loop .loop .inv .walk .inside, entry .pre .1 .1 .3 _ (c .before .loop-test .taken))))
 
 enum-known-child : tie.Need-enum-known-child Inv-loop μ-loop
 enum-known-child c = search needs
@@ -76,7 +77,7 @@ word-at-requires c κs =
     let loop = step .before .before .before in
     let entry = start loop in
     word-inside _ _ _ _ _ _ (entry .pre .0)
-    (next-inside (loop .loop .inv) (entry .pre .1 .1 .1) (step .before .before .loop-test .taken) (step .tested-step .ensures) (c .before .child .given .1) (entry .pre .1 .0 .0))
+    (next-inside (loop .loop .inv .walk) (entry .pre .1 .1 .1) (step .before .before .loop-test .taken) (step .tested-step .ensures) (c .before .child .given .1) (entry .pre .1 .0 .0))
 
 enum-told-3 : tie.Need-enum-told-3 Inv-loop μ-loop
 enum-told-3 c = search needs
@@ -104,7 +105,7 @@ emit-span-requires c κs =
     let step = child .before .before in
     let loop = step .before .before .before in
     let entry = start loop in
-    (omega (arith, loop .loop .inv .first), omega (arith, entry .pre .1 .1), omega (arith, entry .pre .1 .1))
+    (omega (arith, loop .loop .inv .walk .first), omega (arith, entry .pre .1 .1), omega (arith, entry .pre .1 .1))
 
 is-done-requires : tie.Need-is-done-requires Inv-loop μ-loop
 is-done-requires c κs = search needs

@@ -5,8 +5,8 @@ use Prim.Native.Nat.{_-_}
 use native.Mathlib.Omega.{arith}
 use borrow.Author.Needs.{needs}
 use Rattle.walk.proofs.Places.{word-inside}
-use Rattle.sparse_dag.proofs.Walks.{Walking, begins, ends-here, ends-nothing, ends-damaged, ends-bad, ends-full, goes-on, goes-on-behind}
-use Rattle.sparse_dag.proofs.Walks.{next-inside, in-use-record}
+use Rattle.cuts.proofs.Walks.{next-inside}
+use Rattle.sparse_dag.proofs.Walks.{Walking, begins, ends-here, ends-nothing, ends-damaged, ends-bad, ends-full, goes-on, goes-on-behind, in-use-record}
 use Rattle.sparse_dag.proofs.prefixes_at.Statement.{statement}
 use Rattle.sparse_dag.proofs.prefixes_at.Tie as tie
 
@@ -35,7 +35,7 @@ tested-step-requires : tie.Need-tested-step-requires Inv-loop μ-loop
 tested-step-requires c κs =
     let loop = c .before .before in
     let entry = start loop in
-    ((entry .pre .0 .slotChildren, entry .pre .1 .0 .0), (entry .pre .1 .0 .1, (loop .loop .inv .inside, entry .pre .1 .1 .0 .3 _ (c .before .loop-test .taken))))
+    ((entry .pre .0 .slotChildren, entry .pre .1 .0 .0), (entry .pre .1 .0 .1, (loop .loop .inv .walk .inside, entry .pre .1 .1 .0 .3 _ (c .before .loop-test .taken))))
 
 enum-known-child : tie.Need-enum-known-child Inv-loop μ-loop
 enum-known-child c = search needs
@@ -80,7 +80,7 @@ word-at-requires c κs =
     let loop = step .before .before .before in
     let entry = start loop in
     word-inside _ _ _ _ _ _ (entry .pre .0)
-    (next-inside (loop .loop .inv) (entry .pre .1 .1 .0 .1) (step .before .before .loop-test .taken) (step .tested-step .ensures) (c .before .child .given .1) (entry .pre .1 .0 .0))
+    (next-inside (loop .loop .inv .walk) (entry .pre .1 .1 .0 .1) (step .before .before .loop-test .taken) (step .tested-step .ensures) (c .before .child .given .1) (entry .pre .1 .0 .0))
 
 enum-told-3 : tie.Need-enum-told-3 Inv-loop μ-loop
 enum-told-3 c = search needs
