@@ -3,6 +3,7 @@ pub mod Classes
 pub mod Blocks
 pub mod Recordings
 pub mod Sentences
+pub mod Cutting
 pub mod OneKind
 pub mod Turns
 pub mod Through

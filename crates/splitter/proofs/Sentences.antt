@@ -4,13 +4,13 @@
 use mathlib.Core.Path.{_≡_, refl, sym, ap, _∙_}
 use mathlib.Core.Bool.{Bool, true, false}
 use mathlib.Core.List.{List}
-use mathlib.Core.Option.{Option, none, some, IsSome}
+use mathlib.Core.Option.{Option, none, some}
 use Prim.Native.Nat.{ℕ, _+_, _≤_}
 use native.Mathlib.Omega.{arith}
 use lib.ListN.{length, take}
 use lib.Seq.{length-take-le}
 use Rattle.utf8.specs.Encoding.{byteLength}
-use Rattle.utf8.specs.Text.{charsOf, charsFrom}
+use Rattle.utf8.specs.Text.{charsOf}
 use Rattle.utf8.proofs.Texts.{no-more-than-bytes}
 use Rattle.utf8.proofs.Positions.{from-start}
 use Rattle.book.specs.declared.Outcome.the-variants.{Done}
@@ -29,9 +29,6 @@ use Rattle.splitter.proofs.Recordings.{text-end}
 pub text-start : (s cs : List ℕ) → charsOf s ≡ some cs → textFrom s 0 ≡ cs
 unfolding textFrom
 text-start s cs e = rw (textFrom, from-start s, e) refl
-
-pub well-formed-start : (s : List ℕ) → IsSome (charsOf s) → IsSome (charsFrom s 0)
-well-formed-start s h = rw (from-start s) h
 
 -- there are no more of them than bytes
 text-length : (s : List ℕ) (o : Option (List ℕ)) → charsOf s ≡ o → length (textFrom s 0) ≤ length s

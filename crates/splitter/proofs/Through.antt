@@ -15,6 +15,7 @@ use Rattle.utf8.specs.declared.Character.the-variants.{Char, Malformed, End}
 use Rattle.utf8.specs.Characters.{characterAt}
 use Rattle.utf8.specs.Text.{charsFrom}
 use Rattle.utf8.proofs.Positions.{from-malformed, inside, not-within}
+use Rattle.walk.proofs.Characters.{chars-start}
 use Rattle.cuts.specs.Blocks.{Block}
 use Rattle.splitter.specs.declared.CharacterClass.{CharacterClass}
 use Rattle.splitter.specs.declared.Run.{Run}
@@ -24,7 +25,6 @@ use Rattle.splitter.specs.Turns.{InTurn, ended, turned, begun, movedTo, 
 use Rattle.splitter.proofs.Classes.{same-kind}
 use Rattle.splitter.proofs.Blocks.{EndsBefore}
 use Rattle.splitter.proofs.Recordings.{Recording, nothing-read, one-more-read, ends-with-text, ends-at-character, run-recorded}
-use Rattle.splitter.proofs.Sentences.{well-formed-start}
 use Rattle.splitter.proofs.Turns.{blocks-in-turn}
 
 -- ---- a run
@@ -101,5 +101,5 @@ module _ (class : CharacterClass) where
 
 pub every-text-in-turn : EveryTextInTurn
 every-text-in-turn class text cs well-formed =
-    let all = turns class (suc (length (now text))) (begun text) (omega arith) (omega arith) (well-formed-start (now text) (rw well-formed tt)) in
+    let all = turns class (suc (length (now text))) (begun text) (omega arith) (omega arith) (chars-start (now text) (rw well-formed tt)) in
     subst (InTurn class (begun text)) (blocks-in-turn class text cs (all .0) well-formed (all .1)) (all .1)

@@ -1,21 +1,22 @@
--- `cut_all::cut_all_blocks` meets its contract. The loop's invariant is `Cutting`, and the measure is the number of bytes left. A turn and each return is a law
--- of `Blocks`, over what `next_recording` ensures, and then `cut_all_tokens` or `cut_all_unmatched`; where the loop stands is what the splitter's `start`,
--- `has_next` and `advance` answer.
+-- `cut_all::cut_all_blocks` meets its contract. The loop's invariant is `Cutting`, with the slices as long as they were, and the measure is the number of bytes
+-- left. A turn and each return is a law of `splitter`'s `Cutting`, over what `next_recording` ensures, and then `cut_all_tokens` or `cut_all_unmatched`
+-- (`Blocks`); where the loop stands is what the splitter's `start`, `has_next` and `advance` answer.
 -- Assumes nothing.
 use Prim.Native.Nat.{_-_, _≤_, _<_}
 use mathlib.Core.Logic.{⊎-elim}
-use mathlib.Core.Path.{sym, _∙_}
+use mathlib.Core.Path.{refl, sym, _∙_}
 use native.Mathlib.Omega.{arith}
 use lib.ListN.{length, take}
 use borrow.Author.Needs.{needs}
 use borrow.Author.Tests.{ltb-true, ltb-false, not-true, not-false}
-use Rattle.cut_all.proofs.Blocks.{Cutting, BlockCut, begins, room-chars, room-offsets, run-in-offsets, run-in-text, matched-cut, unmatched-cut, as-answered, ends-here, ends-stopped, goes-behind}
+use Rattle.splitter.proofs.Cutting.{run-within, run-in-text, ends-here, ends-stopped, goes-behind}
+use Rattle.cut_all.proofs.Blocks.{SameLong, Cutting, begins, BlockCut, as-answered, matched-cut, unmatched-cut}
 use Rattle.cut_all.proofs.cut_all_blocks.Statement.{statement}
 use Rattle.cut_all.proofs.cut_all_blocks.Tie as tie
 
 abbrev Inv-loop : tie.InvT-loop
 Inv-loop root-children root-words keys children words shift used sentence chars₀ offsets₀ tokens₀ at₀ base₀ count₀ chars offsets tokens at base count =
-    Cutting root-children root-words keys children words used sentence chars₀ offsets₀ tokens₀ chars offsets tokens at base count
+    SameLong chars chars₀ offsets offsets₀ tokens tokens₀ × Cutting root-children root-words keys children words used sentence tokens₀ tokens at base count
 
 abbrev μ-loop : tie.MeasureT-loop
 μ-loop root-children root-words keys children words shift used sentence chars₀ offsets₀ tokens₀ at₀ base₀ count₀ chars offsets tokens at base count =
@@ -39,12 +40,12 @@ block : (c : tie.Joined2 Inv-loop μ-loop)
     let args = start at .args in
     let r = run c .next-recording .result in
     BlockCut (args .root-children .now) (args .root-words .now) (args .keys .now) (args .children .now) (args .words .now) (args .used)
-    (at .loop .base) (at .loop .at) (r .matched) (take (r .chars) (run c .next-recording .last .1 .1 .1 .0)) (at .loop .tokens) (at .loop .count) (c .if2 .cut) (c .if2 .tokens)
+    (at .loop .base) (r .matched) (take (r .chars) (run c .next-recording .last .1 .1 .1 .0)) (run c .next-recording .last .1 .1 .1 .1 .0)
+    (at .loop .tokens) (at .loop .count) (c .if2 .cut) (c .if2 .tokens)
 block c =
-    let at = head (run c) in
     ⊎-elim
-    (λ w. as-answered (w .7) (w .8) (matched-cut (at .loop .inv) (run c .next-recording .ensures) (w .0 .taken) (w .4 .kept .1 .1 .1 .1 .1 .1 .1 .1 .1 .1 .1 .0) (w .4 .ensures)))
-    (λ w. as-answered (w .7) (w .8) (unmatched-cut (at .loop .inv) (run c .next-recording .ensures) (w .0 .left) (w .4 .kept .1 .1 .1 .1 .0) (w .4 .ensures)))
+    (λ w. as-answered (w .7) (w .8) (matched-cut (w .0 .taken) (w .4 .kept .1 .1 .1 .1 .1 .1 .1 .1 .1 .1 .1 .0) (w .4 .ensures)))
+    (λ w. as-answered (w .7) (w .8) (unmatched-cut (w .0 .left) (w .4 .kept .1 .1 .1 .1 .0) (w .4 .ensures)))
     (c .if2 .came)
 
 -- where the splitter has no run left the sentence ends, and where it has one it goes on
@@ -58,8 +59,10 @@ start-requires : tie.Need-start-requires Inv-loop μ-loop
 start-requires c κs = search needs
 
 loop-holds : tie.Need-loop-holds Inv-loop μ-loop
-loop-holds c =
-    begins _ _ _ _ _ _ _ _ _ _ _ (c .before .before .before .before .before .before .before .before .pre .1 .1 .0 .1) (c .start .ensures)
+loop-holds c = (
+  record { long-chars = refl; long-offsets = refl; long-tokens = refl },
+  begins _ _ _ _ _ _ _ _ _ (c .before .before .before .before .before .before .before .before .pre .1 .1 .0 .1) (c .start .ensures),
+)
 
 has-next-requires : tie.Need-has-next-requires Inv-loop μ-loop
 has-next-requires c κs = search needs
@@ -68,10 +71,9 @@ next-recording-requires : tie.Need-next-recording-requires Inv-loop μ-loop
 next-recording-requires c κs =
     let loop = c .before .before .before .before in
     let entry = start loop in
-    let room = entry .pre .1 .1 .1 in (
-      (before-end (c .before .before), entry .pre .1 .1 .0 .0, loop .loop .inv .well-formed),
-      (room-chars (loop .loop .inv) (room .0), room-offsets (loop .loop .inv) (room .1)),
-    )
+    let room = entry .pre .1 .1 .1 in
+    let l = loop .loop .inv in
+    ((before-end (c .before .before), entry .pre .1 .1 .0 .0, l .1 .well-formed), (omega (arith, l .0, l .1 .counted, room), omega (arith, l .0, l .1 .counted, room)))
 
 cut-all-tokens-requires : tie.Need-cut-all-tokens-requires Inv-loop μ-loop
 cut-all-tokens-requires c κs =
@@ -84,9 +86,9 @@ cut-all-tokens-requires c κs =
         entry .pre .1 .0,
         (
           omega (arith, recorded .fits),
-          run-in-offsets (loop .loop .inv) recorded (entry .pre .1 .1 .1 .1) (run .next-recording .kept .1 .1 .1 .1 .0),
+          omega (arith, run-within (loop .loop .inv .1) recorded, loop .loop .inv .0, entry .pre .1 .1 .1, run .next-recording .kept),
           recorded .characters,
-          run-in-text (loop .loop .inv) recorded (entry .pre .1 .1 .0 .0),
+          run-in-text (loop .loop .inv .1) recorded (entry .pre .1 .1 .0 .0),
         ),
       ),
     )
@@ -98,8 +100,8 @@ cut-all-unmatched-requires c κs =
     let entry = start loop in
     let recorded = run .next-recording .ensures in (
       omega (arith, recorded .fits),
-      run-in-offsets (loop .loop .inv) recorded (entry .pre .1 .1 .1 .1) (run .next-recording .kept .1 .1 .1 .1 .0),
-      run-in-text (loop .loop .inv) recorded (entry .pre .1 .1 .0 .0),
+      omega (arith, run-within (loop .loop .inv .1) recorded, loop .loop .inv .0, entry .pre .1 .1 .1, run .next-recording .kept),
+      run-in-text (loop .loop .inv .1) recorded (entry .pre .1 .1 .0 .0),
     )
 
 is-done-requires : tie.Need-is-done-requires Inv-loop μ-loop
@@ -108,33 +110,33 @@ is-done-requires c κs = search needs
 same-length : tie.Need-same-length Inv-loop μ-loop
 same-length c =
     let run = run (c .before .before) in
-    run .next-recording .kept .1 .1 .1 .0 ∙ head run .loop .inv .chars-long
+    run .next-recording .kept .1 .1 .1 .0 ∙ head run .loop .inv .0 .long-chars
 
 same-length-2 : tie.Need-same-length-2 Inv-loop μ-loop
 same-length-2 c =
     let run = run (c .before .before) in
-    run .next-recording .kept .1 .1 .1 .1 .0 ∙ head run .loop .inv .offsets-long
+    run .next-recording .kept .1 .1 .1 .1 .0 ∙ head run .loop .inv .0 .long-offsets
 
 same-length-3 : tie.Need-same-length-3 Inv-loop μ-loop
 same-length-3 c =
     let cut = c .before .before in
-    block cut .kept ∙ head (run cut) .loop .inv .tokens-long
+    block cut .kept ∙ head (run cut) .loop .inv .0 .long-tokens
 
 returns : tie.Need-returns Inv-loop μ-loop
 returns c =
     let cut = c .before .before in
     let run = run cut in
-    ends-stopped (head run .loop .inv) (run .next-recording .ensures) (block cut) (sym (c .before .is-done .ensures) ∙ not-true _ (c .if3 .taken))
+    ends-stopped (head run .loop .inv .1) (run .next-recording .ensures) (cut .if2 .cut) _ (block cut .same) (sym (c .before .is-done .ensures) ∙ not-true _ (c .if3 .taken))
 
 cast-base : tie.Need-cast-base Inv-loop μ-loop
 cast-base c =
     let run = run (c .before .before) in
-    omega (arith, run-in-text (head run .loop .inv) (run .next-recording .ensures) (start (head run) .pre .1 .1 .0 .0))
+    omega (arith, run-in-text (head run .loop .inv .1) (run .next-recording .ensures) (start (head run) .pre .1 .1 .0 .0))
 
 add-base : tie.Need-add-base Inv-loop μ-loop
 add-base c =
     let run = run (c .before .before) in
-    omega (arith, run-in-text (head run .loop .inv) (run .next-recording .ensures) (start (head run) .pre .1 .1 .0 .0))
+    omega (arith, run-in-text (head run .loop .inv .1) (run .next-recording .ensures) (start (head run) .pre .1 .1 .0 .0))
 
 advance-requires : tie.Need-advance-requires Inv-loop μ-loop
 advance-requires c κs = search needs
@@ -148,8 +150,15 @@ loop-again : tie.Need-loop-again Inv-loop μ-loop
 loop-again c =
     let cut = c .before .before .before in
     let run = run cut in
-    goes-behind (head run .loop .inv) (run .next-recording .ensures) (block cut) (sym (c .before .before .is-done .ensures) ∙ not-false _ (c .before .if3 .left))
-    (run .next-recording .kept .1 .1 .1 .0) (run .next-recording .kept .1 .1 .1 .1 .0) (c .advance .ensures)
+    let l = head run .loop .inv in (
+      record {
+        long-chars = run .next-recording .kept .1 .1 .1 .0 ∙ l .0 .long-chars;
+        long-offsets = run .next-recording .kept .1 .1 .1 .1 .0 ∙ l .0 .long-offsets;
+        long-tokens = block cut .kept ∙ l .0 .long-tokens;
+      },
+      goes-behind (l .1) (run .next-recording .ensures) (cut .if2 .cut) _ (block cut .same)
+          (sym (c .before .before .is-done .ensures) ∙ not-false _ (c .before .if3 .left)) (c .advance .ensures),
+    )
 
 same-length-4 : tie.Need-same-length-4 Inv-loop μ-loop
 same-length-4 c = search
@@ -162,7 +171,7 @@ same-length-6 c = search
 
 returns-2 : tie.Need-returns-2 Inv-loop μ-loop
 returns-2 c =
-    ends-here (c .before .before .loop .inv) (behind-end c)
+    ends-here (c .before .before .loop .inv .1) (behind-end c)
 
 pub cut-all-blocks-spec : {M : Type 1} → statement M
 cut-all-blocks-spec =

@@ -1,5 +1,5 @@
 -- `tokenize::cut_blocks` meets its contract. The loop's invariant is `Cutting`, with the areas as long as they were, and the measure is the number of bytes left. A
--- turn and each return is a law of `Sentences`, over what `next_recording` and `cut_block` ensure; where the loop stands is what the splitter's `start`, `has_next` and
+-- turn and each return is a law of `splitter`'s `Cutting`, over what `next_recording` and `cut_block` ensure; where the loop stands is what the splitter's `start`, `has_next` and
 -- `advance` answer.
 -- Assumes nothing.
 use mathlib.Core.Path.{refl, sym, _∙_}
@@ -9,7 +9,8 @@ use lib.ListN.{length}
 use borrow.Author.Needs.{needs}
 use borrow.Author.Tests.{ltb-true, ltb-false, not-true, not-false}
 use Rattle.trie.specs.Trie.{trieOf}
-use Rattle.tokenize.proofs.Sentences.{SameLong, Cutting, begins, run-within, of-kind, run-in-text, ends-here, ends-stopped, goes-behind}
+use Rattle.splitter.proofs.Cutting.{run-within, run-in-text, ends-here, ends-stopped, goes-behind}
+use Rattle.tokenize.proofs.Sentences.{SameLong, Cutting, begins, of-kind}
 use Rattle.tokenize.proofs.cut_blocks.Statement.{statement}
 use Rattle.tokenize.proofs.cut_blocks.Tie as tie
 
@@ -95,7 +96,7 @@ cut-block-requires c κs =
             run .next-recording .ensures .characters,
             run-in-text (test run .loop .inv .1) (run .next-recording .ensures) (pre .1 .1 .0 .0),
           ),
-          (omega (arith, long, pre .1 .1 .1 .1), omega (arith, long, pre .1 .1 .1 .1), of-kind (test run .loop .inv .1) (run .next-recording .ensures)),
+          (omega (arith, long, pre .1 .1 .1 .1), omega (arith, long, pre .1 .1 .1 .1), of-kind (run .next-recording .ensures)),
         ),
       ),
     )
