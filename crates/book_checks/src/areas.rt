@@ -1,4 +1,4 @@
-// The seven areas as lists of numbers: a sum that tells their contents apart, and stores into them by which a book is damaged.
+//! The seven areas as lists of numbers: a sum that tells their contents apart.
 ghost use Prim.Native.Nat.{_<_};
 ghost use lib.ListN.{length};
 use trie::WordNumber;
@@ -88,38 +88,4 @@ pub fn sum_of(
     let root = sum_i32(root_words, sum_u32(root_children, 1));
     let slots = sum_i32(words, sum_u32(children, sum_u64(keys, root)));
     sum_f64(logarithms, sum_u32(frequencies, slots))
-}
-
-// Stores a key into the slots from `from` to below `end`.
-pub fn store_keys(keys: &mut [u64], from: usize, end: usize, key: u64) {
-    let mut i = from;
-    while i < keys.len() && i < end {
-        keys[i] = key;
-        i += 1;
-    }
-}
-
-// Stores a frequency into the records from `from` to below `end`.
-pub fn store_frequencies(frequencies: &mut [u32], from: usize, end: usize, frequency: u64) {
-    let stored = (frequency % 4_294_967_296) as u32;
-    let mut i = from;
-    while i < frequencies.len() && i < end {
-        frequencies[i] = stored;
-        i += 1;
-    }
-}
-
-// A number from 2^31 on stands for the word number -2.
-fn word_number(n: u64) -> i32 {
-    if n < 2_147_483_648 { n as i32 } else { -2 }
-}
-
-// Stores a word number into the entries from `from` to below `end`.
-pub fn store_words(words: &mut [i32], from: usize, end: usize, n: u64) {
-    let word = word_number(n);
-    let mut i = from;
-    while i < words.len() && i < end {
-        words[i] = word;
-        i += 1;
-    }
 }

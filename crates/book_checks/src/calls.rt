@@ -1,9 +1,9 @@
-// The calls on a book, each with the answer brought into one form, so that one function prints every answer.
+//! The answers of the calls on a book, each brought into one form, so that one function prints every answer.
+use addition::Added;
 use book::Found;
 use book::Head;
 use book::Prepared;
-ghost use Prim.Native.Nat.{_≤_};
-ghost use lib.ListN.{length};
+use dict::Loaded;
 
 // What a command answers: nothing, where it only stores; else document 01's number, with what comes beside it.
 pub enum Reply {
@@ -21,25 +21,8 @@ pub struct Answer {
 }
 
 // A refused preparation gives no head: the old one stays.
-pub fn prepare(
-    head: Head,
-    root_children: &mut [u32],
-    root_words: &mut [i32],
-    keys: &mut [u64],
-    children: &mut [u32],
-    words: &mut [i32],
-    frequencies: &mut [u32],
-    logarithms: &mut [f64],
-) -> Answer {
-    match prepare::prepare(
-        root_children,
-        root_words,
-        keys,
-        children,
-        words,
-        frequencies,
-        logarithms,
-    ) {
+pub fn prepared(head: Head, answer: Prepared) -> Answer {
+    match answer {
         Prepared::Ready(ready) => Answer {
             reply: Reply::Number(0),
             head: ready,
@@ -51,90 +34,26 @@ pub fn prepare(
     }
 }
 
-pub fn load(
-    head: Head,
-    root_children: &mut [u32],
-    root_words: &mut [i32],
-    keys: &mut [u64],
-    children: &mut [u32],
-    words: &mut [i32],
-    frequencies: &mut [u32],
-    logarithms: &mut [f64],
-    text: &[u8],
-) -> Answer {
-    let loaded = dict::load_dict(
-        head,
-        root_children,
-        root_words,
-        keys,
-        children,
-        words,
-        frequencies,
-        logarithms,
-        text,
-    );
-    let outcome = loaded.outcome;
-    let left = loaded.head;
+pub fn loaded(answer: Loaded) -> Answer {
+    let outcome = answer.outcome;
+    let head = answer.head;
     Answer {
-        reply: Reply::Line(book::number_of(outcome), loaded.line as u64),
-        head: left,
+        reply: Reply::Line(book::number_of(outcome), answer.line as u64),
+        head,
     }
 }
 
-pub fn add(
-    head: Head,
-    root_children: &mut [u32],
-    root_words: &mut [i32],
-    keys: &mut [u64],
-    children: &mut [u32],
-    words: &mut [i32],
-    frequencies: &mut [u32],
-    logarithms: &mut [f64],
-    word: &[u8],
-    frequency: u64,
-) -> Answer {
-    let added = addition::add_word(
-        head,
-        root_children,
-        root_words,
-        keys,
-        children,
-        words,
-        frequencies,
-        logarithms,
-        word,
-        frequency,
-    );
-    let outcome = added.outcome;
-    let left = added.head;
+pub fn added(answer: Added) -> Answer {
+    let outcome = answer.outcome;
+    let head = answer.head;
     Answer {
-        reply: Reply::Frequency(book::number_of(outcome), added.frequency),
-        head: left,
+        reply: Reply::Frequency(book::number_of(outcome), answer.frequency),
+        head,
     }
 }
 
-pub fn look_up(
-    head: Head,
-    root_children: &[u32],
-    root_words: &[i32],
-    keys: &[u64],
-    children: &[u32],
-    words: &[i32],
-    frequencies: &[u32],
-    logarithms: &[f64],
-    word: &[u8],
-) -> Reply {
-    match lookup::lookup(
-        head,
-        root_children,
-        root_words,
-        keys,
-        children,
-        words,
-        frequencies,
-        logarithms,
-        word,
-    ) {
+pub fn found(answer: Found) -> Reply {
+    match answer {
         Found::Frequency(n) => Reply::Frequency(0, n as u64),
         Found::Absent => Reply::Absent,
         Found::NotLookedUp(outcome) => Reply::Number(book::number_of(outcome)),

@@ -7,23 +7,34 @@
 //! over 16,777,215 bytes does not fit a program's stack.
 mod areas;
 mod calls;
-mod cases;
-mod output;
 mod play;
-mod script;
 
-use libc::STDIN_FILENO;
+use cases::output::print;
+use cases::paragraphs;
+
+fn play_paragraph(paragraph: &[u8]) {
+    let mut space = [0u8; 4096];
+    let length = paragraphs::case_of(paragraph, &mut space);
+    if 0 < length {
+        play::play_case(&space[..length]);
+    }
+}
+
+fn play_all(text: &[u8]) {
+    let mut at: usize = 0;
+    while at < text.len() {
+        let end = paragraphs::paragraph_end(text, at);
+        let next = end + 2;
+        play_paragraph(&text[at..end]);
+        at = next;
+    }
+}
 
 fn main() {
     let mut space = io::large_buffer();
-    let length = io::read_full(STDIN_FILENO, &mut space);
-    // An input that fills the space may be cut short.
-    if length == space.len() {
-        output::print(b"the input is too long\n");
-        return;
-    }
-    output::print(
+    let length = paragraphs::read(&mut space);
+    print(
         b"What is done: the answer; head (records used, slots used, next node, total); sum over the areas\n",
     );
-    cases::play_all(&space[..length]);
+    play_all(&space[..length]);
 }

@@ -1,16 +1,20 @@
-// A script is played on a book: each command calls or stores, and a line says what it answered, the head afterwards, the sum over
-// the areas and whether that sum is another one than before.
+//! A script is played on a book: each command calls or stores, and a line says what it answered, the head afterwards, the sum over
+//! the areas and whether that sum is another one than before.
+//!
+//! The commands: `prepare`, `load TEXT`, `add WORD FREQUENCY` and `get WORD` are the calls. `head RECORDS SLOTS NEXT TOTAL` stores a
+//! head; `frequencies FROM END VALUE`, and so `table`, `root`, `keys`, `children` and `words`, store into an area. The first letter
+//! tells them apart.
 use crate::areas;
 use crate::calls;
 use crate::calls::Answer;
 use crate::calls::Reply;
-use crate::output;
-use crate::output::print;
-use crate::output::print_decimal;
-use crate::output::print_next;
-use crate::script;
 use book::Head;
-ghost use Prim.Native.Nat.{_≤_};
+use cases::output;
+use cases::output::print;
+use cases::output::print_decimal;
+use cases::output::print_next;
+use cases::script;
+use cases::stores;
 
 // `head RECORDS SLOTS NEXT TOTAL` gives those values to the head; any other command stores none.
 fn head_after(head: Head, command: &[u8], name: u8) -> Head {
@@ -25,30 +29,52 @@ fn head_after(head: Head, command: &[u8], name: u8) -> Head {
     }
 }
 
-// `keys`, `words`, `root` (its word numbers) and `frequencies` store a value, their third field, from the first on to below the
-// second.
-fn store(
-    root_words: &mut [i32],
-    keys: &mut [u64],
-    words: &mut [i32],
-    frequencies: &mut [u32],
-    command: &[u8],
-    name: u8,
-) {
-    let from = script::number(command, 1) as usize;
-    let end = script::number(command, 2) as usize;
-    let value = script::number(command, 3);
-    match name {
-        b'k' => areas::store_keys(keys, from, end, value),
-        b'w' => areas::store_words(words, from, end, value),
-        b'r' => areas::store_words(root_words, from, end, value),
-        b'f' => areas::store_frequencies(frequencies, from, end, value),
-        _ => {}
+// `frequencies` stores into the records; any other command stores nothing there.
+fn store_in_records(frequencies: &mut [u32], command: &[u8], name: u8) {
+    if name == b'f' {
+        stores::store_u32(frequencies, command);
     }
 }
 
-// Does what a command says: one of the four calls, or a store.
-fn answer(
+// What is answered with nothing written: `get` looks a word up, and any other command has stored before.
+fn read_only(
+    head: Head,
+    root_children: &[u32],
+    root_words: &[i32],
+    keys: &[u64],
+    children: &[u32],
+    words: &[i32],
+    frequencies: &[u32],
+    logarithms: &[f64],
+    command: &[u8],
+    name: u8,
+) -> Answer {
+    if name != b'g' {
+        return Answer {
+            reply: Reply::Stored,
+            head: head_after(head, command, name),
+        };
+    }
+    let at = script::after(command, 1, b' ');
+    let answer = lookup::lookup(
+        head,
+        root_children,
+        root_words,
+        keys,
+        children,
+        words,
+        frequencies,
+        logarithms,
+        &command[at..],
+    );
+    Answer {
+        reply: calls::found(answer),
+        head,
+    }
+}
+
+// Does what a command says on the whole book.
+fn call(
     head: Head,
     root_children: &mut [u32],
     root_words: &mut [i32],
@@ -60,19 +86,21 @@ fn answer(
     command: &[u8],
     name: u8,
 ) -> Answer {
-    let at = script::first_field(command);
+    let at = script::after(command, 1, b' ');
     match name {
-        b'p' => calls::prepare(
+        b'p' => calls::prepared(
             head,
-            root_children,
-            root_words,
-            keys,
-            children,
-            words,
-            frequencies,
-            logarithms,
+            prepare::prepare(
+                root_children,
+                root_words,
+                keys,
+                children,
+                words,
+                frequencies,
+                logarithms,
+            ),
         ),
-        b'l' => calls::load(
+        b'l' => calls::loaded(dict::load_dict(
             head,
             root_children,
             root_words,
@@ -82,10 +110,10 @@ fn answer(
             frequencies,
             logarithms,
             &command[at..],
-        ),
+        )),
         b'a' => {
             let end = script::find(command, at, b' ');
-            calls::add(
+            calls::added(addition::add_word(
                 head,
                 root_children,
                 root_words,
@@ -96,10 +124,13 @@ fn answer(
                 logarithms,
                 &command[at..end],
                 script::number(command, 2),
-            )
+            ))
         }
-        b'g' => Answer {
-            reply: calls::look_up(
+        _ => {
+            stores::store_in_root(root_children, root_words, command);
+            stores::store_in_slots(keys, children, words, command);
+            store_in_records(frequencies, command, name);
+            read_only(
                 head,
                 root_children,
                 root_words,
@@ -108,16 +139,9 @@ fn answer(
                 words,
                 frequencies,
                 logarithms,
-                &command[at..],
-            ),
-            head,
-        },
-        _ => {
-            store(root_words, keys, words, frequencies, command, name);
-            Answer {
-                reply: Reply::Stored,
-                head: head_after(head, command, name),
-            }
+                command,
+                name,
+            )
         }
     }
 }
@@ -146,7 +170,7 @@ fn print_answer(command: &[u8], given: Answer, before: u64, after: u64) {
     output::print_command(command);
     print(b":");
     print_reply(reply);
-    output::print_head(head);
+    output::print_head(head.records, head.slots, head.next, head.total);
     print(b"; areas ");
     print_decimal(after);
     if before == after {
@@ -156,9 +180,42 @@ fn print_answer(command: &[u8], given: Answer, before: u64, after: u64) {
     }
 }
 
-// Plays one command and prints its line. The answer is the head that is left behind.
-fn turn(
+// How far a script has come: the head, and the sum over the areas.
+struct State {
     head: Head,
+    sum: u64,
+}
+
+// Prints a command's line.
+fn shown(
+    given: Answer,
+    before: u64,
+    root_children: &[u32],
+    root_words: &[i32],
+    keys: &[u64],
+    children: &[u32],
+    words: &[i32],
+    frequencies: &[u32],
+    logarithms: &[f64],
+    command: &[u8],
+) -> State {
+    let sum = areas::sum_of(
+        root_children,
+        root_words,
+        keys,
+        children,
+        words,
+        frequencies,
+        logarithms,
+    );
+    print_answer(command, given, before, sum);
+    let head = given.head;
+    State { head, sum }
+}
+
+// Plays one command and prints its line.
+fn turn(
+    state: State,
     root_children: &mut [u32],
     root_words: &mut [i32],
     keys: &mut [u64],
@@ -167,19 +224,9 @@ fn turn(
     frequencies: &mut [u32],
     logarithms: &mut [f64],
     command: &[u8],
-) -> Head {
-    let before = areas::sum_of(
-        root_children,
-        root_words,
-        keys,
-        children,
-        words,
-        frequencies,
-        logarithms,
-    );
-    let name = script::name(command);
-    let given = answer(
-        head,
+) -> State {
+    let given = call(
+        state.head,
         root_children,
         root_words,
         keys,
@@ -188,9 +235,11 @@ fn turn(
         frequencies,
         logarithms,
         command,
-        name,
+        script::name(command),
     );
-    let after = areas::sum_of(
+    shown(
+        given,
+        state.sum,
         root_children,
         root_words,
         keys,
@@ -198,12 +247,40 @@ fn turn(
         words,
         frequencies,
         logarithms,
-    );
-    print_answer(command, given, before, after);
-    given.head
+        command,
+    )
 }
 
-// The commands of a script one after the other, from a head of zeros.
+// The state before a script: a head of zeros.
+fn start(
+    root_children: &[u32],
+    root_words: &[i32],
+    keys: &[u64],
+    children: &[u32],
+    words: &[i32],
+    frequencies: &[u32],
+    logarithms: &[f64],
+) -> State {
+    State {
+        head: Head {
+            records: 0,
+            slots: 0,
+            next: 0,
+            total: 0,
+        },
+        sum: areas::sum_of(
+            root_children,
+            root_words,
+            keys,
+            children,
+            words,
+            frequencies,
+            logarithms,
+        ),
+    }
+}
+
+// The commands of a script one after the other.
 fn play(
     root_children: &mut [u32],
     root_words: &mut [i32],
@@ -214,18 +291,21 @@ fn play(
     logarithms: &mut [f64],
     script: &[u8],
 ) {
-    let mut head = Head {
-        records: 0,
-        slots: 0,
-        next: 0,
-        total: 0,
-    };
+    let mut state = start(
+        root_children,
+        root_words,
+        keys,
+        children,
+        words,
+        frequencies,
+        logarithms,
+    );
     let mut at: usize = 0;
     while at < script.len() {
         let end = script::find(script, at, b';');
-        let next = end + 1;
-        head = turn(
-            head,
+        let next = script::next_command(script, at);
+        state = turn(
+            state,
             root_children,
             root_words,
             keys,
@@ -239,35 +319,16 @@ fn play(
     }
 }
 
-// A length of a case's second part, `root R R, slots S S S, records N N`.
-fn size(case: &[u8], field: u64, places: usize) -> usize
-    ensures { λ r. ⌜ r ≤ places ⌝ }
-{
-    let at = script::after(case, 1, b'|');
-    script::length(&case[at..], field, places)
-}
-
-fn print_heading(case: &[u8]) {
-    let end = script::find(case, 0, b'|');
-    let sizes = script::after(case, 1, b'|');
-    let sizes_end = script::find(case, sizes, b'|');
-    print(b"\n");
-    print(&case[..end]);
-    print(b" (");
-    print(&case[sizes..sizes_end]);
-    print(b")\n");
-}
-
 // Plays a case. The areas hold sevens at first, so that what `prepare` writes shows.
 pub fn play_case(case: &[u8]) {
-    print_heading(case);
-    let root = size(case, 1, 65537);
-    let root_words = size(case, 2, 65537);
-    let keys = size(case, 4, 64);
-    let children = size(case, 5, 64);
-    let words = size(case, 6, 64);
-    let frequencies = size(case, 8, 16);
-    let logarithms = size(case, 9, 16);
+    output::print_heading(case);
+    let root = script::size(case, 1, 65537);
+    let root_words = script::size(case, 2, 65537);
+    let keys = script::size(case, 4, 64);
+    let children = script::size(case, 5, 64);
+    let words = script::size(case, 6, 64);
+    let frequencies = script::size(case, 8, 16);
+    let logarithms = script::size(case, 9, 16);
     let script = script::after(case, 2, b'|');
     let mut root_area = [7u32; 65537];
     let mut root_words_area = [7i32; 65537];

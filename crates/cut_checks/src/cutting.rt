@@ -1,72 +1,85 @@
-// Cuts with a book, as a case says, and a line for each: the number, the tokens written, and the whole token area afterwards.
-//
-// The commands: `cut WORK EDGES TOKENS SENTENCE` lends a work area of six slices of that length, an edge area of two, and a token
-// area of so many numbers; `find` is the same for search; `slices` takes a length for each of the nine slices. These three are
-// `tokenize` by one mode or the other. `all CHARS OFFSETS TOKENS SENTENCE` is `cut_all`, whose work area is two slices. `head RECORDS
-// SLOTS NEXT TOTAL` stores a head. The first letter tells them apart.
-//
-// What is lent holds sevens at first, so that the places that stay show. Where a cut does not begin, its line says whether the work
-// area and the edge area stayed too; once it has begun their content is free.
+//! Cuts with a book, as a case says, and a line for each.
+//!
+//! The commands: `cut WORK EDGES TOKENS SENTENCE` lends a work area of six slices of that length, an edge area of two, and a token
+//! area of so many numbers; `find` is the same for search; `slices` takes a length for each of the nine slices. These three are
+//! `tokenize` by one mode or the other. `all CHARS OFFSETS TOKENS SENTENCE` is `cut_all`, whose work area is two slices. `head RECORDS
+//! SLOTS NEXT TOTAL` stores a head. The first letter tells them apart.
+//!
+//! What is lent holds sevens at first, so that the places that stay show.
 use crate::kept;
-use crate::output;
-use crate::output::print;
-use crate::output::print_next;
-use crate::script;
+use crate::line;
 use book::Head;
-use cuts::Cut;
+use cases::output::print;
+use cases::output::print_command;
+use cases::script;
 use cuts::TokenizeMode;
 ghost use Prim.Native.Nat.{_≤_};
 
-// Whether a cut has not begun, by its number and the head: 8 is met before the cut only where the head is damaged.
-fn has_not_begun(number: u32, head: Head, records: usize, slots: usize) -> bool {
-    if number == 8 {
-        if 4_194_304 < slots {
-            return false;
-        }
-        return book::is_head_damaged(head, records, slots);
-    }
-    (number == 1) | (number == 2) | (number == 3) | (number == 9)
-}
-
-// The line of a cut, up to its token area.
-fn print_cut(command: &[u8], number: u32, count: usize, token_area: &[u32; 256], tokens: usize) {
-    output::print_command(command);
-    print(b":");
-    print_next(number as u64);
-    print(b", tokens");
-    print_next(count as u64);
-    output::print_tokens(token_area, tokens);
-}
-
-// The end of the line, which says where a cut has not begun whether what is named stayed as it was.
-fn print_kept(has_not_begun: bool, name: &[u8], unchanged: bool) {
-    if has_not_begun {
-        print(b"; ");
-        print(name);
-        if unchanged {
-            print(b" unchanged");
-        } else {
-            print(b" changed");
-        }
-    }
-    print(b"\n");
-}
-
-fn print_answer(
-    command: &[u8],
-    answer: Cut,
-    token_area: &[u32; 256],
-    tokens: usize,
+// Cuts in the areas that are lent, and prints the line. The sentence starts at a field of the command.
+fn tokenize_in(
     head: Head,
-    records: usize,
-    slots: usize,
-    name: &[u8],
-    unchanged: bool,
+    root_children: &[u32],
+    root_words: &[i32],
+    keys: &[u64],
+    children: &[u32],
+    words: &[i32],
+    frequencies: &[u32],
+    logarithms: &[f64],
+    command: &[u8],
+    field: u64,
+    mode: TokenizeMode,
+    chars: &mut [u32],
+    offsets: &mut [u32],
+    starts: &mut [usize],
+    scores: &mut [f64],
+    ends: &mut [u32],
+    records: &mut [u32],
+    edge_ends: &mut [u32],
+    edge_records: &mut [u32],
+    tokens: &mut [u32],
 ) {
-    let outcome = answer.outcome;
-    let number = book::number_of(outcome);
-    print_cut(command, number, answer.count, token_area, tokens);
-    print_kept(has_not_begun(number, head, records, slots), name, unchanged);
+    let at = script::after(command, field, b' ');
+    let answer = tokenize::tokenize(
+        head,
+        root_children,
+        root_words,
+        keys,
+        children,
+        words,
+        frequencies,
+        logarithms,
+        &command[at..],
+        mode,
+        chars,
+        offsets,
+        starts,
+        scores,
+        ends,
+        records,
+        edge_ends,
+        edge_records,
+        tokens,
+    );
+    let unchanged = kept::are_sevens(
+        chars,
+        offsets,
+        starts,
+        scores,
+        ends,
+        records,
+        edge_ends,
+        edge_records,
+    );
+    line::print_answer(
+        command,
+        answer,
+        tokens,
+        head,
+        frequencies.len(),
+        keys.len(),
+        b"work and edges",
+        unchanged,
+    );
 }
 
 // `cut` and `find`, and `slices` whose lengths stand apart, each in a field of its own.
@@ -94,7 +107,6 @@ fn tokenize(
     let edge_ends = script::length(command, 2 + 5 * apart, 64);
     let edge_records = script::length(command, 2 + 6 * apart, 64);
     let tokens = script::length(command, 3 + 6 * apart, 256);
-    let at = script::after(command, 4 + 6 * apart, b' ');
     let mut char_area = [7u32; 64];
     let mut offset_area = [7u32; 64];
     let mut start_area = [7usize; 64];
@@ -104,7 +116,7 @@ fn tokenize(
     let mut edge_end_area = [7u32; 64];
     let mut edge_record_area = [7u32; 64];
     let mut token_area = [7u32; 256];
-    let answer = tokenize::tokenize(
+    tokenize_in(
         head,
         root_children,
         root_words,
@@ -113,7 +125,8 @@ fn tokenize(
         words,
         frequencies,
         logarithms,
-        &command[at..],
+        command,
+        4 + 6 * apart,
         mode,
         &mut char_area[..chars],
         &mut offset_area[..offsets],
@@ -125,25 +138,47 @@ fn tokenize(
         &mut edge_record_area[..edge_records],
         &mut token_area[..tokens],
     );
-    let unchanged = kept::are_sevens(
-        &char_area,
-        &offset_area,
-        &start_area,
-        &score_area,
-        &end_area,
-        &record_area,
-        &edge_end_area,
-        &edge_record_area,
+}
+
+// As `tokenize_in`, for all words.
+fn cut_all_in(
+    head: Head,
+    root_children: &[u32],
+    root_words: &[i32],
+    keys: &[u64],
+    children: &[u32],
+    words: &[i32],
+    frequencies: &[u32],
+    logarithms: &[f64],
+    command: &[u8],
+    chars: &mut [u32],
+    offsets: &mut [u32],
+    tokens: &mut [u32],
+) {
+    let at = script::after(command, 4, b' ');
+    let answer = cut_all::cut_all(
+        head,
+        root_children,
+        root_words,
+        keys,
+        children,
+        words,
+        frequencies,
+        logarithms,
+        &command[at..],
+        chars,
+        offsets,
+        tokens,
     );
-    print_answer(
+    let unchanged = kept::is_sevens(chars) & kept::is_sevens(offsets);
+    line::print_answer(
         command,
         answer,
-        &token_area,
         tokens,
         head,
         frequencies.len(),
         keys.len(),
-        b"work and edges",
+        b"work",
         unchanged,
     );
 }
@@ -163,11 +198,10 @@ fn cut_all(
     let chars = script::length(command, 1, 64);
     let offsets = script::length(command, 2, 64);
     let tokens = script::length(command, 3, 256);
-    let at = script::after(command, 4, b' ');
     let mut char_area = [7u32; 64];
     let mut offset_area = [7u32; 64];
     let mut token_area = [7u32; 256];
-    let answer = cut_all::cut_all(
+    cut_all_in(
         head,
         root_children,
         root_words,
@@ -176,28 +210,16 @@ fn cut_all(
         words,
         frequencies,
         logarithms,
-        &command[at..],
+        command,
         &mut char_area[..chars],
         &mut offset_area[..offsets],
         &mut token_area[..tokens],
-    );
-    let unchanged = kept::is_sevens(&char_area) & kept::is_sevens(&offset_area);
-    print_answer(
-        command,
-        answer,
-        &token_area,
-        tokens,
-        head,
-        frequencies.len(),
-        keys.len(),
-        b"work",
-        unchanged,
     );
 }
 
 // `head`
 fn stored_head(command: &[u8]) -> Head {
-    output::print_command(command);
+    print_command(command);
     print(b": stored\n");
     Head {
         records: script::number(command, 1),
@@ -284,7 +306,7 @@ pub fn play(
     let mut at: usize = 0;
     while at < cuts.len() {
         let end = script::find(cuts, at, b';');
-        let next = end + 1;
+        let next = script::next_command(cuts, at);
         head = turn(
             head,
             root_children,

@@ -1,9 +1,9 @@
-// Whether areas of 64 places that held sevens still hold nothing else.
+//! Whether areas that held sevens still hold nothing else.
 
 // Of 32-bit numbers.
-pub fn is_sevens(s: &[u32; 64]) -> bool {
+pub fn is_sevens(s: &[u32]) -> bool {
     let mut i = 0;
-    while i < 64 {
+    while i < s.len() {
         if s[i] != 7 {
             return false;
         }
@@ -12,9 +12,9 @@ pub fn is_sevens(s: &[u32; 64]) -> bool {
     true
 }
 
-fn is_sevens_usize(s: &[usize; 64]) -> bool {
+fn is_sevens_usize(s: &[usize]) -> bool {
     let mut i = 0;
-    while i < 64 {
+    while i < s.len() {
         if s[i] != 7 {
             return false;
         }
@@ -23,9 +23,9 @@ fn is_sevens_usize(s: &[usize; 64]) -> bool {
     true
 }
 
-fn is_sevens_f64(s: &[f64; 64]) -> bool {
+fn is_sevens_f64(s: &[f64]) -> bool {
     let mut i = 0;
-    while i < 64 {
+    while i < s.len() {
         if s[i] != 7.0 {
             return false;
         }
@@ -36,14 +36,14 @@ fn is_sevens_f64(s: &[f64; 64]) -> bool {
 
 // Of a work area and an edge area.
 pub fn are_sevens(
-    chars: &[u32; 64],
-    offsets: &[u32; 64],
-    starts: &[usize; 64],
-    scores: &[f64; 64],
-    ends: &[u32; 64],
-    records: &[u32; 64],
-    edge_ends: &[u32; 64],
-    edge_records: &[u32; 64],
+    chars: &[u32],
+    offsets: &[u32],
+    starts: &[usize],
+    scores: &[f64],
+    ends: &[u32],
+    records: &[u32],
+    edge_ends: &[u32],
+    edge_records: &[u32],
 ) -> bool {
     is_sevens(chars)
         & is_sevens(offsets)

@@ -1,15 +1,14 @@
-// A case is played: a book is prepared and loaded in areas of the given lengths, changed by stores, and then cut with. The areas
-// hold sevens at first.
+//! A case is played: a book is prepared and loaded in areas of the given lengths, changed by stores, and then cut with. The areas
+//! hold sevens at first. The parts of a case are the heading, the lengths, the dictionary, the stores and the cuts.
 use crate::cutting;
-use crate::output;
-use crate::output::print;
-use crate::output::print_next;
-use crate::script;
 use crate::stores;
 use book::Head;
 use book::Prepared;
+use cases::output;
+use cases::output::print;
+use cases::output::print_next;
+use cases::script;
 use dict::Loaded;
-ghost use Prim.Native.Nat.{_≤_};
 
 // Prints what `prepare` answered. Where there is no book the head is zeros.
 fn prepared(answer: Prepared) -> Head {
@@ -42,13 +41,14 @@ fn loaded(dictionary: &[u8], answer: Loaded) -> Head {
     print_next(book::number_of(outcome) as u64);
     print(b", line");
     print_next(answer.line as u64);
-    output::print_head(head);
+    output::print_head(head.records, head.slots, head.next, head.total);
     print(b"\n");
     head
 }
 
-fn load(
-    empty: Head,
+// Changes a book that is loaded by the stores, and cuts with it.
+fn play_loaded(
+    head: Head,
     root_children: &mut [u32],
     root_words: &mut [i32],
     keys: &mut [u64],
@@ -56,86 +56,13 @@ fn load(
     words: &mut [i32],
     frequencies: &mut [u32],
     logarithms: &mut [f64],
-    dictionary: &[u8],
-) -> Head {
-    let answer = dict::load_dict(
-        empty,
-        root_children,
-        root_words,
-        keys,
-        children,
-        words,
-        frequencies,
-        logarithms,
-        dictionary,
-    );
-    loaded(dictionary, answer)
-}
-
-// An empty book with the words of a dictionary.
-fn build(
-    root_children: &mut [u32],
-    root_words: &mut [i32],
-    keys: &mut [u64],
-    children: &mut [u32],
-    words: &mut [i32],
-    frequencies: &mut [u32],
-    logarithms: &mut [f64],
-    dictionary: &[u8],
-) -> Head {
-    let answer = prepare::prepare(
-        root_children,
-        root_words,
-        keys,
-        children,
-        words,
-        frequencies,
-        logarithms,
-    );
-    load(
-        prepared(answer),
-        root_children,
-        root_words,
-        keys,
-        children,
-        words,
-        frequencies,
-        logarithms,
-        dictionary,
-    )
-}
-
-fn play(
-    root_children: &mut [u32],
-    root_words: &mut [i32],
-    keys: &mut [u64],
-    children: &mut [u32],
-    words: &mut [i32],
-    frequencies: &mut [u32],
-    logarithms: &mut [f64],
-    dictionary: &[u8],
     stores: &[u8],
     cuts: &[u8],
 ) {
-    let head = build(
-        root_children,
-        root_words,
-        keys,
-        children,
-        words,
-        frequencies,
-        logarithms,
-        dictionary,
-    );
-    stores::play(
-        root_children,
-        root_words,
-        keys,
-        children,
-        words,
-        logarithms,
-        stores,
-    );
+    stores::print_stores(stores);
+    stores::play_on_root(root_children, root_words, stores);
+    stores::play_on_slots(keys, children, words, stores);
+    stores::play_on_records(logarithms, stores);
     cutting::play(
         head,
         root_children,
@@ -149,34 +76,91 @@ fn play(
     );
 }
 
-// A length of a case's second part, `root R R, slots S S S, records N N`.
-fn size(case: &[u8], field: u64, places: usize) -> usize
-    ensures { λ r. ⌜ r ≤ places ⌝ }
-{
-    let at = script::after(case, 1, b'|');
-    script::length(&case[at..], field, places)
+// Loads a book that is prepared, and plays the rest of the case.
+fn play_prepared(
+    head: Head,
+    root_children: &mut [u32],
+    root_words: &mut [i32],
+    keys: &mut [u64],
+    children: &mut [u32],
+    words: &mut [i32],
+    frequencies: &mut [u32],
+    logarithms: &mut [f64],
+    dictionary: &[u8],
+    stores: &[u8],
+    cuts: &[u8],
+) {
+    let answer = dict::load_dict(
+        head,
+        root_children,
+        root_words,
+        keys,
+        children,
+        words,
+        frequencies,
+        logarithms,
+        dictionary,
+    );
+    play_loaded(
+        loaded(dictionary, answer),
+        root_children,
+        root_words,
+        keys,
+        children,
+        words,
+        frequencies,
+        logarithms,
+        stores,
+        cuts,
+    );
 }
 
-fn print_heading(case: &[u8]) {
-    let end = script::find(case, 0, b'|');
-    let sizes = script::after(case, 1, b'|');
-    let sizes_end = script::find(case, sizes, b'|');
-    print(b"\n");
-    print(&case[..end]);
-    print(b" (");
-    print(&case[sizes..sizes_end]);
-    print(b")\n");
+// Prepares a book, and plays the rest of the case.
+fn play(
+    root_children: &mut [u32],
+    root_words: &mut [i32],
+    keys: &mut [u64],
+    children: &mut [u32],
+    words: &mut [i32],
+    frequencies: &mut [u32],
+    logarithms: &mut [f64],
+    dictionary: &[u8],
+    stores: &[u8],
+    cuts: &[u8],
+) {
+    let answer = prepare::prepare(
+        root_children,
+        root_words,
+        keys,
+        children,
+        words,
+        frequencies,
+        logarithms,
+    );
+    play_prepared(
+        prepared(answer),
+        root_children,
+        root_words,
+        keys,
+        children,
+        words,
+        frequencies,
+        logarithms,
+        dictionary,
+        stores,
+        cuts,
+    );
 }
 
 pub fn play_case(case: &[u8]) {
-    print_heading(case);
-    let root = size(case, 1, 65537);
-    let root_words = size(case, 2, 65537);
-    let keys = size(case, 4, 64);
-    let children = size(case, 5, 64);
-    let words = size(case, 6, 64);
-    let frequencies = size(case, 8, 32);
-    let logarithms = size(case, 9, 32);
+    output::print_heading(case);
+    let root = script::size(case, 1, 65537);
+    let root_words = script::size(case, 2, 65537);
+    let keys = script::size(case, 4, 64);
+    let children = script::size(case, 5, 64);
+    let words = script::size(case, 6, 64);
+    let frequencies = script::size(case, 8, 32);
+    let logarithms = script::size(case, 9, 32);
     let dictionary = script::after(case, 2, b'|');
     let dictionary_end = script::find(case, dictionary, b'|');
     let stores = script::after(case, 3, b'|');

@@ -1,121 +1,10 @@
-// Stores into a book's areas, by which a book is made that no call builds. `NAME FROM END VALUE` stores a value into the places
-// from the first number on to below the second. The first letter tells the areas apart: `table` and `root` are the root entries'
-// children and word numbers; `keys`, `children` and `words` are the slots'; `floats` are the stored logarithms, the value being a
-// double's 64 bits.
-use crate::output;
-use crate::output::print;
-use crate::script;
+//! The stores of a case: those of `cases::stores`, and `floats`, which stores logarithms.
+use cases::output;
+use cases::output::print;
+use cases::script;
+use cases::stores;
 
-fn store_u32(s: &mut [u32], command: &[u8]) {
-    let value = (script::number(command, 3) % 4_294_967_296) as u32;
-    let end = script::number(command, 2) as usize;
-    let mut i = script::number(command, 1) as usize;
-    while i < s.len() && i < end {
-        s[i] = value;
-        i += 1;
-    }
-}
-
-fn store_u64(s: &mut [u64], command: &[u8]) {
-    let value = script::number(command, 3);
-    let end = script::number(command, 2) as usize;
-    let mut i = script::number(command, 1) as usize;
-    while i < s.len() && i < end {
-        s[i] = value;
-        i += 1;
-    }
-}
-
-// The double of these bits. A NaN comes from a division: `from_bits` takes no bits of one.
-fn double(bits: u64) -> f64 {
-    if 0x7FF0_0000_0000_0000 < bits % 0x8000_0000_0000_0000 {
-        return 0.0 / 0.0;
-    }
-    f64::from_bits(bits)
-}
-
-fn store_f64(s: &mut [f64], command: &[u8]) {
-    let value = double(script::number(command, 3));
-    let end = script::number(command, 2) as usize;
-    let mut i = script::number(command, 1) as usize;
-    while i < s.len() && i < end {
-        s[i] = value;
-        i += 1;
-    }
-}
-
-// A number from 2^31 on stands for the word number -2.
-fn word_number(n: u64) -> i32 {
-    if n < 2_147_483_648 { n as i32 } else { -2 }
-}
-
-fn store_i32(s: &mut [i32], command: &[u8]) {
-    let value = word_number(script::number(command, 3));
-    let end = script::number(command, 2) as usize;
-    let mut i = script::number(command, 1) as usize;
-    while i < s.len() && i < end {
-        s[i] = value;
-        i += 1;
-    }
-}
-
-fn store_in_root(root_children: &mut [u32], root_words: &mut [i32], command: &[u8]) {
-    match script::name(command) {
-        b't' => store_u32(root_children, command),
-        b'r' => store_i32(root_words, command),
-        _ => {}
-    }
-}
-
-fn store_in_slots(keys: &mut [u64], children: &mut [u32], words: &mut [i32], command: &[u8]) {
-    match script::name(command) {
-        b'k' => store_u64(keys, command),
-        b'c' => store_u32(children, command),
-        b'w' => store_i32(words, command),
-        _ => {}
-    }
-}
-
-fn store_in_records(logarithms: &mut [f64], command: &[u8]) {
-    if script::name(command) == b'f' {
-        store_f64(logarithms, command);
-    }
-}
-
-// Those of the stores that concern the root table.
-fn play_on_root(root_children: &mut [u32], root_words: &mut [i32], stores: &[u8]) {
-    let mut at: usize = 0;
-    while at < stores.len() {
-        let end = script::find(stores, at, b';');
-        let next = end + 1;
-        store_in_root(root_children, root_words, &stores[at..end]);
-        at = next;
-    }
-}
-
-// Those that concern the slots.
-fn play_on_slots(keys: &mut [u64], children: &mut [u32], words: &mut [i32], stores: &[u8]) {
-    let mut at: usize = 0;
-    while at < stores.len() {
-        let end = script::find(stores, at, b';');
-        let next = end + 1;
-        store_in_slots(keys, children, words, &stores[at..end]);
-        at = next;
-    }
-}
-
-// Those that concern the records.
-fn play_on_records(logarithms: &mut [f64], stores: &[u8]) {
-    let mut at: usize = 0;
-    while at < stores.len() {
-        let end = script::find(stores, at, b';');
-        let next = end + 1;
-        store_in_records(logarithms, &stores[at..end]);
-        at = next;
-    }
-}
-
-fn print_stores(stores: &[u8]) {
+pub fn print_stores(stores: &[u8]) {
     if 0 < stores.len() {
         print(b"stored ");
         output::print_command(stores);
@@ -123,18 +12,42 @@ fn print_stores(stores: &[u8]) {
     }
 }
 
-// The stores of a case, those into each part of the book in their order.
-pub fn play(
-    root_children: &mut [u32],
-    root_words: &mut [i32],
-    keys: &mut [u64],
-    children: &mut [u32],
-    words: &mut [i32],
-    logarithms: &mut [f64],
-    stores: &[u8],
-) {
-    print_stores(stores);
-    play_on_root(root_children, root_words, stores);
-    play_on_slots(keys, children, words, stores);
-    play_on_records(logarithms, stores);
+// Those of the stores that concern the root table.
+pub fn play_on_root(root_children: &mut [u32], root_words: &mut [i32], stores: &[u8]) {
+    let mut at: usize = 0;
+    while at < stores.len() {
+        let end = script::find(stores, at, b';');
+        let next = script::next_command(stores, at);
+        stores::store_in_root(root_children, root_words, &stores[at..end]);
+        at = next;
+    }
+}
+
+// Those that concern the slots.
+pub fn play_on_slots(keys: &mut [u64], children: &mut [u32], words: &mut [i32], stores: &[u8]) {
+    let mut at: usize = 0;
+    while at < stores.len() {
+        let end = script::find(stores, at, b';');
+        let next = script::next_command(stores, at);
+        stores::store_in_slots(keys, children, words, &stores[at..end]);
+        at = next;
+    }
+}
+
+// `floats`; any other command stores nothing here.
+fn store_in_records(logarithms: &mut [f64], command: &[u8]) {
+    if script::name(command) == b'f' {
+        stores::store_f64(logarithms, command);
+    }
+}
+
+// Those that concern the records.
+pub fn play_on_records(logarithms: &mut [f64], stores: &[u8]) {
+    let mut at: usize = 0;
+    while at < stores.len() {
+        let end = script::find(stores, at, b';');
+        let next = script::next_command(stores, at);
+        store_in_records(logarithms, &stores[at..end]);
+        at = next;
+    }
 }

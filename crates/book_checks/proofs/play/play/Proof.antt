@@ -9,10 +9,13 @@ use Rattle.book_checks.proofs.play.play.Statement.{statement}
 use Rattle.book_checks.proofs.play.play.Tie as tie
 
 abbrev Inv-loop : tie.InvT-loop
-Inv-loop root-children₀ root-words₀ keys₀ children₀ words₀ frequencies₀ logarithms₀ script head₀ at₀ root-children root-words keys children words frequencies logarithms head at = (length root-children ≡ length root-children₀) × (length root-words ≡ length root-words₀) × (length keys ≡ length keys₀) × (length children ≡ length children₀) × (length words ≡ length words₀) × (length frequencies ≡ length frequencies₀) × (length logarithms ≡ length logarithms₀)
+Inv-loop root-children₀ root-words₀ keys₀ children₀ words₀ frequencies₀ logarithms₀ script state₀ at₀ root-children root-words keys children words frequencies logarithms state at = (length root-children ≡ length root-children₀) × (length root-words ≡ length root-words₀) × (length keys ≡ length keys₀) × (length children ≡ length children₀) × (length words ≡ length words₀) × (length frequencies ≡ length frequencies₀) × (length logarithms ≡ length logarithms₀)
 
 abbrev μ-loop : tie.MeasureT-loop
-μ-loop root-children₀ root-words₀ keys₀ children₀ words₀ frequencies₀ logarithms₀ script head₀ at₀ root-children root-words keys children words frequencies logarithms head at = length script - at
+μ-loop root-children₀ root-words₀ keys₀ children₀ words₀ frequencies₀ logarithms₀ script state₀ at₀ root-children root-words keys children words frequencies logarithms state at = length script - at
+
+start-requires : tie.Need-start-requires Inv-loop μ-loop
+start-requires c κs = search needs
 
 loop-holds : tie.Need-loop-holds Inv-loop μ-loop
 loop-holds c = search needs
@@ -20,8 +23,8 @@ loop-holds c = search needs
 find-requires : tie.Need-find-requires Inv-loop μ-loop
 find-requires c κs = search needs
 
-add-next : tie.Need-add-next Inv-loop μ-loop
-add-next c = search needs
+next-command-requires : tie.Need-next-command-requires Inv-loop μ-loop
+next-command-requires c κs = search needs
 
 sub-turn : tie.Need-sub-turn Inv-loop μ-loop
 sub-turn c = search needs
@@ -71,9 +74,10 @@ play-spec =
     (tie.spec
     Inv-loop
     μ-loop
+    start-requires
     loop-holds
     find-requires
-    add-next
+    next-command-requires
     sub-turn
     part-turn-start
     part-turn-end

@@ -20,8 +20,8 @@ loop-holds c = search needs
 find-requires : tie.Need-find-requires Inv-loop μ-loop
 find-requires c κs = search needs
 
-add-next : tie.Need-add-next Inv-loop μ-loop
-add-next c = search needs
+next-command-requires : tie.Need-next-command-requires Inv-loop μ-loop
+next-command-requires c κs = search needs
 
 sub-turn : tie.Need-sub-turn Inv-loop μ-loop
 sub-turn c = search needs
@@ -52,7 +52,7 @@ play-spec =
     μ-loop
     loop-holds
     find-requires
-    add-next
+    next-command-requires
     sub-turn
     part-turn-start
     part-turn-end

@@ -1,4 +1,4 @@
--- `cut_checks::cutting::tokenize` is safe: each length that is lent is at most its array's, and the sentence starts within the command.
+-- `cut_checks::cutting::tokenize` is safe: each length that is lent is at most its array's.
 -- Assumes nothing.
 use native.Mathlib.Omega.{arith}
 use lib.ListN.{length-take}
@@ -78,89 +78,68 @@ add-length-8 c = search needs
 length-requires-9 : tie.Need-length-requires-9
 length-requires-9 c κs = search needs
 
-mul-after : tie.Need-mul-after
-mul-after c = search needs
+mul-tokenize-in : tie.Need-mul-tokenize-in
+mul-tokenize-in c = search needs
 
-add-after : tie.Need-add-after
-add-after c = search needs
-
-after-requires : tie.Need-after-requires
-after-requires c κs = search needs
-
-sub-tokenize : tie.Need-sub-tokenize
-sub-tokenize c = search needs
-
-part-tokenize-start : tie.Need-part-tokenize-start
-part-tokenize-start c = search needs
-
-part-tokenize-end : tie.Need-part-tokenize-end
-part-tokenize-end c = search needs
+add-tokenize-in : tie.Need-add-tokenize-in
+add-tokenize-in c = search needs
 
 array-borrow-prefix-char-area : tie.Need-array-borrow-prefix-char-area
 array-borrow-prefix-char-area c = search needs
 
-slice-aggregate-tokenize : tie.Need-slice-aggregate-tokenize
-slice-aggregate-tokenize c = simp length-take (omega arith)
+slice-aggregate-tokenize-in : tie.Need-slice-aggregate-tokenize-in
+slice-aggregate-tokenize-in c = simp length-take (omega arith)
 
 array-borrow-prefix-offset-area : tie.Need-array-borrow-prefix-offset-area
 array-borrow-prefix-offset-area c = search needs
 
-slice-aggregate-tokenize-2 : tie.Need-slice-aggregate-tokenize-2
-slice-aggregate-tokenize-2 c = simp length-take (omega arith)
+slice-aggregate-tokenize-in-2 : tie.Need-slice-aggregate-tokenize-in-2
+slice-aggregate-tokenize-in-2 c = simp length-take (omega arith)
 
 array-borrow-prefix-start-area : tie.Need-array-borrow-prefix-start-area
 array-borrow-prefix-start-area c = search needs
 
-slice-aggregate-tokenize-3 : tie.Need-slice-aggregate-tokenize-3
-slice-aggregate-tokenize-3 c = simp length-take (omega arith)
+slice-aggregate-tokenize-in-3 : tie.Need-slice-aggregate-tokenize-in-3
+slice-aggregate-tokenize-in-3 c = simp length-take (omega arith)
 
 array-borrow-prefix-score-area : tie.Need-array-borrow-prefix-score-area
 array-borrow-prefix-score-area c = search needs
 
-slice-aggregate-tokenize-4 : tie.Need-slice-aggregate-tokenize-4
-slice-aggregate-tokenize-4 c = simp length-take (omega arith)
+slice-aggregate-tokenize-in-4 : tie.Need-slice-aggregate-tokenize-in-4
+slice-aggregate-tokenize-in-4 c = simp length-take (omega arith)
 
 array-borrow-prefix-end-area : tie.Need-array-borrow-prefix-end-area
 array-borrow-prefix-end-area c = search needs
 
-slice-aggregate-tokenize-5 : tie.Need-slice-aggregate-tokenize-5
-slice-aggregate-tokenize-5 c = simp length-take (omega arith)
+slice-aggregate-tokenize-in-5 : tie.Need-slice-aggregate-tokenize-in-5
+slice-aggregate-tokenize-in-5 c = simp length-take (omega arith)
 
 array-borrow-prefix-record-area : tie.Need-array-borrow-prefix-record-area
 array-borrow-prefix-record-area c = search needs
 
-slice-aggregate-tokenize-6 : tie.Need-slice-aggregate-tokenize-6
-slice-aggregate-tokenize-6 c = simp length-take (omega arith)
+slice-aggregate-tokenize-in-6 : tie.Need-slice-aggregate-tokenize-in-6
+slice-aggregate-tokenize-in-6 c = simp length-take (omega arith)
 
 array-borrow-prefix-edge-end-area : tie.Need-array-borrow-prefix-edge-end-area
 array-borrow-prefix-edge-end-area c = search needs
 
-slice-aggregate-tokenize-7 : tie.Need-slice-aggregate-tokenize-7
-slice-aggregate-tokenize-7 c = simp length-take (omega arith)
+slice-aggregate-tokenize-in-7 : tie.Need-slice-aggregate-tokenize-in-7
+slice-aggregate-tokenize-in-7 c = simp length-take (omega arith)
 
 array-borrow-prefix-edge-record-area : tie.Need-array-borrow-prefix-edge-record-area
 array-borrow-prefix-edge-record-area c = search needs
 
-slice-aggregate-tokenize-8 : tie.Need-slice-aggregate-tokenize-8
-slice-aggregate-tokenize-8 c = simp length-take (omega arith)
+slice-aggregate-tokenize-in-8 : tie.Need-slice-aggregate-tokenize-in-8
+slice-aggregate-tokenize-in-8 c = simp length-take (omega arith)
 
 array-borrow-prefix-token-area : tie.Need-array-borrow-prefix-token-area
 array-borrow-prefix-token-area c = search needs
 
-slice-aggregate-tokenize-9 : tie.Need-slice-aggregate-tokenize-9
-slice-aggregate-tokenize-9 c = simp length-take (omega arith)
+slice-aggregate-tokenize-in-9 : tie.Need-slice-aggregate-tokenize-in-9
+slice-aggregate-tokenize-in-9 c = simp length-take (omega arith)
 
-tokenize-requires : tie.Need-tokenize-requires
-tokenize-requires c κs = search needs
-
-are-sevens-requires : tie.Need-are-sevens-requires
-are-sevens-requires c κs = search needs
-
-slice-aggregate-print-answer : tie.Need-slice-aggregate-print-answer
-slice-aggregate-print-answer c = search needs
-
-print-answer-requires : tie.Need-print-answer-requires
-print-answer-requires c κs = search needs
+tokenize-in-requires : tie.Need-tokenize-in-requires
+tokenize-in-requires c κs = search needs
 
 returns : tie.Need-returns
 returns c = search needs
@@ -193,32 +172,25 @@ tokenize-spec =
     mul-length-7
     add-length-8
     length-requires-9
-    mul-after
-    add-after
-    after-requires
-    sub-tokenize
-    part-tokenize-start
-    part-tokenize-end
+    mul-tokenize-in
+    add-tokenize-in
     array-borrow-prefix-char-area
-    slice-aggregate-tokenize
+    slice-aggregate-tokenize-in
     array-borrow-prefix-offset-area
-    slice-aggregate-tokenize-2
+    slice-aggregate-tokenize-in-2
     array-borrow-prefix-start-area
-    slice-aggregate-tokenize-3
+    slice-aggregate-tokenize-in-3
     array-borrow-prefix-score-area
-    slice-aggregate-tokenize-4
+    slice-aggregate-tokenize-in-4
     array-borrow-prefix-end-area
-    slice-aggregate-tokenize-5
+    slice-aggregate-tokenize-in-5
     array-borrow-prefix-record-area
-    slice-aggregate-tokenize-6
+    slice-aggregate-tokenize-in-6
     array-borrow-prefix-edge-end-area
-    slice-aggregate-tokenize-7
+    slice-aggregate-tokenize-in-7
     array-borrow-prefix-edge-record-area
-    slice-aggregate-tokenize-8
+    slice-aggregate-tokenize-in-8
     array-borrow-prefix-token-area
-    slice-aggregate-tokenize-9
-    tokenize-requires
-    are-sevens-requires
-    slice-aggregate-print-answer
-    print-answer-requires
+    slice-aggregate-tokenize-in-9
+    tokenize-in-requires
     returns)

@@ -19,8 +19,8 @@ loop-holds c = search needs
 find-requires : tie.Need-find-requires Inv-loop μ-loop
 find-requires c κs = search needs
 
-add-next : tie.Need-add-next Inv-loop μ-loop
-add-next c = search needs
+next-command-requires : tie.Need-next-command-requires Inv-loop μ-loop
+next-command-requires c κs = search needs
 
 sub-store-in-records : tie.Need-sub-store-in-records Inv-loop μ-loop
 sub-store-in-records c = search needs
@@ -54,7 +54,7 @@ play-on-records-spec =
     μ-loop
     loop-holds
     find-requires
-    add-next
+    next-command-requires
     sub-store-in-records
     part-store-in-records-start
     part-store-in-records-end

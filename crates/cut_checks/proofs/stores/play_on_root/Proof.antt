@@ -19,8 +19,8 @@ loop-holds c = search needs
 find-requires : tie.Need-find-requires Inv-loop μ-loop
 find-requires c κs = search needs
 
-add-next : tie.Need-add-next Inv-loop μ-loop
-add-next c = search needs
+next-command-requires : tie.Need-next-command-requires Inv-loop μ-loop
+next-command-requires c κs = search needs
 
 sub-store-in-root : tie.Need-sub-store-in-root Inv-loop μ-loop
 sub-store-in-root c = search needs
@@ -57,7 +57,7 @@ play-on-root-spec =
     μ-loop
     loop-holds
     find-requires
-    add-next
+    next-command-requires
     sub-store-in-root
     part-store-in-root-start
     part-store-in-root-end

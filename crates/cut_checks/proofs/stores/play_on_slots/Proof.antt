@@ -19,8 +19,8 @@ loop-holds c = search needs
 find-requires : tie.Need-find-requires Inv-loop μ-loop
 find-requires c κs = search needs
 
-add-next : tie.Need-add-next Inv-loop μ-loop
-add-next c = search needs
+next-command-requires : tie.Need-next-command-requires Inv-loop μ-loop
+next-command-requires c κs = search needs
 
 sub-store-in-slots : tie.Need-sub-store-in-slots Inv-loop μ-loop
 sub-store-in-slots c = search needs
@@ -60,7 +60,7 @@ play-on-slots-spec =
     μ-loop
     loop-holds
     find-requires
-    add-next
+    next-command-requires
     sub-store-in-slots
     part-store-in-slots-start
     part-store-in-slots-end
