@@ -159,13 +159,17 @@ class Book:
             place = self.step(place, c)
             if place is None:
                 return None
+        return self.record_at(place)
+
+    def record_at(self, place):
+        """The record of a word's last step, or None."""
         n = (self.root_words if place[0] == "root" else self.words)[place[1]]
         if n != -1 and not 0 <= n < self.head[0]:
             raise Refused(8)
         return None if n == -1 else n
 
     def needed(self, word):
-        """How many slots and nodes a new word takes."""
+        """How many slots and nodes a new word takes. No bits are tested; a last step that is there already may be damaged."""
         place = None
         for i, c in enumerate(word):
             below = self.step(place, c)
@@ -173,6 +177,7 @@ class Book:
                 nodes = len(word) - i
                 return nodes - self.in_root(place, c), nodes
             place = below
+        self.record_at(place)
         return 0, 0
 
     def new_node(self):
@@ -323,13 +328,12 @@ def answer(book, command):
     numbers = [int(n) for n in rest.split(b" ")]
     if name == b"head":
         book.head = numbers
-    elif name == b"keys":
-        store(book.keys, *numbers)
-    elif name == b"frequencies":
-        store(book.frequencies, *numbers)
-    else:
+    elif name in [b"words", b"root"]:
         start, end, n = numbers
         store({b"words": book.words, b"root": book.root_words}[name], start, end, n if n < 2**31 else -2)
+    else:
+        areas = {b"table": book.root, b"keys": book.keys, b"children": book.children, b"frequencies": book.frequencies}
+        store(areas[name], *numbers)
     return "stored"
 
 
