@@ -5,9 +5,9 @@
 //! reads the same cases and computes it with a model of the book in plain lists. The sum over the areas is part of each line, so that
 //! the contents are compared with the model's too. Proved here is only that the program is safe and ends. Number 2 is left out: a text
 //! over 16,777,215 bytes does not fit a program's stack.
-mod areas;
 mod calls;
 mod play;
+mod sums;
 
 use cases::output::print;
 use cases::paragraphs;

@@ -4,11 +4,12 @@
 //! The commands: `prepare`, `load TEXT`, `add WORD FREQUENCY` and `get WORD` are the calls. `head RECORDS SLOTS NEXT TOTAL` stores a
 //! head; `frequencies FROM END VALUE`, and so `table`, `root`, `keys`, `children` and `words`, store into an area. The first letter
 //! tells them apart.
-use crate::areas;
 use crate::calls;
 use crate::calls::Answer;
 use crate::calls::Reply;
+use crate::sums;
 use book::Head;
+use cases::areas;
 use cases::output;
 use cases::output::print;
 use cases::output::print_decimal;
@@ -199,7 +200,7 @@ fn shown(
     logarithms: &[f64],
     command: &[u8],
 ) -> State {
-    let sum = areas::sum_of(
+    let sum = sums::sum_of(
         root_children,
         root_words,
         keys,
@@ -268,7 +269,7 @@ fn start(
             next: 0,
             total: 0,
         },
-        sum: areas::sum_of(
+        sum: sums::sum_of(
             root_children,
             root_words,
             keys,
@@ -329,9 +330,8 @@ pub fn play_case(case: &[u8]) {
     let words = script::size(case, 6, 64);
     let frequencies = script::size(case, 8, 16);
     let logarithms = script::size(case, 9, 16);
-    let script = script::after(case, 2, b'|');
-    let mut root_area = [7u32; 65537];
-    let mut root_words_area = [7i32; 65537];
+    let mut root_area = areas::root_children();
+    let mut root_words_area = areas::root_words();
     let mut key_area = [7u64; 64];
     let mut child_area = [7u32; 64];
     let mut word_area = [7i32; 64];
@@ -345,6 +345,6 @@ pub fn play_case(case: &[u8]) {
         &mut word_area[..words],
         &mut frequency_area[..frequencies],
         &mut logarithm_area[..logarithms],
-        &case[script..],
+        script::part(case, 2),
     );
 }

@@ -2,6 +2,7 @@
 //! areas, and the lines that are printed.
 //!
 //! Proved here is only that each function is safe and ends, and that what it answers lies within what it was given.
+pub mod areas;
 pub mod output;
 pub mod paragraphs;
 pub mod script;

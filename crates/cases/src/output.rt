@@ -62,12 +62,9 @@ pub fn print_head(records: u64, slots: u64, next: u64, total: u64) {
 
 // The heading of a case, with its lengths.
 pub fn print_heading(case: &[u8]) {
-    let end = script::find(case, 0, b'|');
-    let sizes = script::after(case, 1, b'|');
-    let sizes_end = script::find(case, sizes, b'|');
     print(b"\n");
-    print(&case[..end]);
+    print(script::part(case, 0));
     print(b" (");
-    print(&case[sizes..sizes_end]);
+    print(script::part(case, 1));
     print(b")\n");
 }

@@ -87,10 +87,16 @@ pub fn length(command: &[u8], field: u64, places: usize) -> usize
     n
 }
 
+// A part of a case, the heading being part 0; nothing where the case has fewer.
+pub fn part(case: &[u8], number: u64) -> &[u8] {
+    let at = after(case, number, b'|');
+    let end = find(case, at, b'|');
+    &case[at..end]
+}
+
 // A length of a case's second part, `root R R, slots S S S, records N N`, where the area has so many places.
 pub fn size(case: &[u8], field: u64, places: usize) -> usize
     ensures { λ r. ⌜ r ≤ places ⌝ }
 {
-    let at = after(case, 1, b'|');
-    length(&case[at..], field, places)
+    length(part(case, 1), field, places)
 }

@@ -4,6 +4,7 @@ use crate::cutting;
 use crate::stores;
 use book::Head;
 use book::Prepared;
+use cases::areas;
 use cases::output;
 use cases::output::print;
 use cases::output::print_next;
@@ -56,9 +57,9 @@ fn play_loaded(
     words: &mut [i32],
     frequencies: &mut [u32],
     logarithms: &mut [f64],
-    stores: &[u8],
-    cuts: &[u8],
+    case: &[u8],
 ) {
+    let stores = script::part(case, 3);
     stores::print_stores(stores);
     stores::play_on_root(root_children, root_words, stores);
     stores::play_on_slots(keys, children, words, stores);
@@ -72,7 +73,7 @@ fn play_loaded(
         words,
         frequencies,
         logarithms,
-        cuts,
+        script::part(case, 4),
     );
 }
 
@@ -86,10 +87,9 @@ fn play_prepared(
     words: &mut [i32],
     frequencies: &mut [u32],
     logarithms: &mut [f64],
-    dictionary: &[u8],
-    stores: &[u8],
-    cuts: &[u8],
+    case: &[u8],
 ) {
+    let dictionary = script::part(case, 2);
     let answer = dict::load_dict(
         head,
         root_children,
@@ -110,8 +110,7 @@ fn play_prepared(
         words,
         frequencies,
         logarithms,
-        stores,
-        cuts,
+        case,
     );
 }
 
@@ -124,9 +123,7 @@ fn play(
     words: &mut [i32],
     frequencies: &mut [u32],
     logarithms: &mut [f64],
-    dictionary: &[u8],
-    stores: &[u8],
-    cuts: &[u8],
+    case: &[u8],
 ) {
     let answer = prepare::prepare(
         root_children,
@@ -146,9 +143,7 @@ fn play(
         words,
         frequencies,
         logarithms,
-        dictionary,
-        stores,
-        cuts,
+        case,
     );
 }
 
@@ -161,13 +156,8 @@ pub fn play_case(case: &[u8]) {
     let words = script::size(case, 6, 64);
     let frequencies = script::size(case, 8, 32);
     let logarithms = script::size(case, 9, 32);
-    let dictionary = script::after(case, 2, b'|');
-    let dictionary_end = script::find(case, dictionary, b'|');
-    let stores = script::after(case, 3, b'|');
-    let stores_end = script::find(case, stores, b'|');
-    let cuts = script::after(case, 4, b'|');
-    let mut root_area = [7u32; 65537];
-    let mut root_words_area = [7i32; 65537];
+    let mut root_area = areas::root_children();
+    let mut root_words_area = areas::root_words();
     let mut key_area = [7u64; 64];
     let mut child_area = [7u32; 64];
     let mut word_area = [7i32; 64];
@@ -181,8 +171,6 @@ pub fn play_case(case: &[u8]) {
         &mut word_area[..words],
         &mut frequency_area[..frequencies],
         &mut logarithm_area[..logarithms],
-        &case[dictionary..dictionary_end],
-        &case[stores..stores_end],
-        &case[cuts..],
+        case,
     );
 }

@@ -1,4 +1,4 @@
--- `book_checks::play::play_case` is safe: each length that is lent is at most its array's, and the script lies within the case.
+-- `book_checks::play::play_case` is safe: each length that is lent is at most its array's.
 -- Assumes nothing.
 use native.Mathlib.Omega.{arith}
 use lib.ListN.{length-take}
@@ -30,8 +30,11 @@ size-requires-6 c κs = search needs
 size-requires-7 : tie.Need-size-requires-7
 size-requires-7 c κs = search needs
 
-after-requires : tie.Need-after-requires
-after-requires c κs = search needs
+root-children-requires : tie.Need-root-children-requires
+root-children-requires c κs = search needs
+
+root-words-requires : tie.Need-root-words-requires
+root-words-requires c κs = search needs
 
 array-borrow-prefix-root-area : tie.Need-array-borrow-prefix-root-area
 array-borrow-prefix-root-area c = search needs
@@ -75,14 +78,8 @@ array-borrow-prefix-logarithm-area c = search needs
 slice-aggregate-play-7 : tie.Need-slice-aggregate-play-7
 slice-aggregate-play-7 c = simp length-take (omega arith)
 
-sub-play : tie.Need-sub-play
-sub-play c = search needs
-
-part-play-start : tie.Need-part-play-start
-part-play-start c = search needs
-
-part-play-end : tie.Need-part-play-end
-part-play-end c = search needs
+part-requires : tie.Need-part-requires
+part-requires c κs = search needs
 
 play-requires : tie.Need-play-requires
 play-requires c κs = search needs
@@ -102,7 +99,8 @@ play-case-spec =
     size-requires-5
     size-requires-6
     size-requires-7
-    after-requires
+    root-children-requires
+    root-words-requires
     array-borrow-prefix-root-area
     slice-aggregate-play
     array-borrow-prefix-root-words-area
@@ -117,8 +115,6 @@ play-case-spec =
     slice-aggregate-play-6
     array-borrow-prefix-logarithm-area
     slice-aggregate-play-7
-    sub-play
-    part-play-start
-    part-play-end
+    part-requires
     play-requires
     returns)

@@ -1,4 +1,4 @@
--- `cut_checks::lend::play_case` is safe: each length that is lent is at most its array's, and each part lies within the case.
+-- `cut_checks::lend::play_case` is safe: each length that is lent is at most its array's.
 -- Assumes nothing.
 use native.Mathlib.Omega.{arith}
 use lib.ListN.{length-take}
@@ -30,20 +30,11 @@ size-requires-6 c κs = search needs
 size-requires-7 : tie.Need-size-requires-7
 size-requires-7 c κs = search needs
 
-after-requires : tie.Need-after-requires
-after-requires c κs = search needs
+root-children-requires : tie.Need-root-children-requires
+root-children-requires c κs = search needs
 
-find-requires : tie.Need-find-requires
-find-requires c κs = search needs
-
-after-requires-2 : tie.Need-after-requires-2
-after-requires-2 c κs = search needs
-
-find-requires-2 : tie.Need-find-requires-2
-find-requires-2 c κs = search needs
-
-after-requires-3 : tie.Need-after-requires-3
-after-requires-3 c κs = search needs
+root-words-requires : tie.Need-root-words-requires
+root-words-requires c κs = search needs
 
 array-borrow-prefix-root-area : tie.Need-array-borrow-prefix-root-area
 array-borrow-prefix-root-area c = search needs
@@ -87,33 +78,6 @@ array-borrow-prefix-logarithm-area c = search needs
 slice-aggregate-play-7 : tie.Need-slice-aggregate-play-7
 slice-aggregate-play-7 c = simp length-take (omega arith)
 
-sub-play : tie.Need-sub-play
-sub-play c = search needs
-
-part-play-start : tie.Need-part-play-start
-part-play-start c = search needs
-
-part-play-end : tie.Need-part-play-end
-part-play-end c = search needs
-
-sub-play-2 : tie.Need-sub-play-2
-sub-play-2 c = search needs
-
-part-play-start-2 : tie.Need-part-play-start-2
-part-play-start-2 c = search needs
-
-part-play-end-2 : tie.Need-part-play-end-2
-part-play-end-2 c = search needs
-
-sub-play-3 : tie.Need-sub-play-3
-sub-play-3 c = search needs
-
-part-play-start-3 : tie.Need-part-play-start-3
-part-play-start-3 c = search needs
-
-part-play-end-3 : tie.Need-part-play-end-3
-part-play-end-3 c = search needs
-
 play-requires : tie.Need-play-requires
 play-requires c κs = search needs
 
@@ -132,11 +96,8 @@ play-case-spec =
     size-requires-5
     size-requires-6
     size-requires-7
-    after-requires
-    find-requires
-    after-requires-2
-    find-requires-2
-    after-requires-3
+    root-children-requires
+    root-words-requires
     array-borrow-prefix-root-area
     slice-aggregate-play
     array-borrow-prefix-root-words-area
@@ -151,14 +112,5 @@ play-case-spec =
     slice-aggregate-play-6
     array-borrow-prefix-logarithm-area
     slice-aggregate-play-7
-    sub-play
-    part-play-start
-    part-play-end
-    sub-play-2
-    part-play-start-2
-    part-play-end-2
-    sub-play-3
-    part-play-start-3
-    part-play-end-3
     play-requires
     returns)

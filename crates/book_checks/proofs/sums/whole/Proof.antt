@@ -1,9 +1,9 @@
--- `book_checks::areas::whole` is safe: the cast asks for a double above -1 and below 2^64, which the two tests before it say.
+-- `book_checks::sums::whole` is safe: the cast asks for a double above -1 and below 2^64, which the two tests before it say.
 -- Assumes nothing.
 use lib.Ieee.{ofBits, neg}
 use borrow.Author.Needs.{needs}
-use Rattle.book_checks.proofs.areas.whole.Statement.{statement}
-use Rattle.book_checks.proofs.areas.whole.Tie as tie
+use Rattle.book_checks.proofs.sums.whole.Statement.{statement}
+use Rattle.book_checks.proofs.sums.whole.Tie as tie
 
 truncating-f64-to-u64-requires : tie.Need-truncating-f64-to-u64-requires
 unfolding ofBits neg

@@ -1,10 +1,10 @@
--- `book_checks::areas::sum_u32` is safe and ends: the index is at most the number of numbers of 32 bits, and the measure is what is left of it.
+-- `book_checks::sums::sum_i32` is safe and ends: the index is at most the number of word numbers, and the measure is what is left of it.
 -- Assumes nothing.
 use Prim.Native.Nat.{_≤_, _-_}
 use lib.ListN.{length}
 use borrow.Author.Needs.{needs}
-use Rattle.book_checks.proofs.areas.sum_u32.Statement.{statement}
-use Rattle.book_checks.proofs.areas.sum_u32.Tie as tie
+use Rattle.book_checks.proofs.sums.sum_i32.Statement.{statement}
+use Rattle.book_checks.proofs.sums.sum_i32.Tie as tie
 
 abbrev Inv-loop : tie.InvT-loop
 Inv-loop s start sum₀ i₀ sum i = i ≤ length s
@@ -15,14 +15,8 @@ abbrev μ-loop : tie.MeasureT-loop
 loop-holds : tie.Need-loop-holds Inv-loop μ-loop
 loop-holds c = search needs
 
-mul-wide : tie.Need-mul-wide Inv-loop μ-loop
-mul-wide c = search needs
-
-shared-slice-read-wide : tie.Need-shared-slice-read-wide Inv-loop μ-loop
-shared-slice-read-wide c = search needs
-
-wide-requires : tie.Need-wide-requires Inv-loop μ-loop
-wide-requires c κs = search needs
+code-requires : tie.Need-code-requires Inv-loop μ-loop
+code-requires c κs = search needs
 
 mix-requires : tie.Need-mix-requires Inv-loop μ-loop
 mix-requires c κs = search needs
@@ -39,16 +33,14 @@ loop-again c = search needs
 returns : tie.Need-returns Inv-loop μ-loop
 returns c = search needs
 
-pub sum-u32-spec : {M : Type 1} → statement M
-sum-u32-spec =
+pub sum-i32-spec : {M : Type 1} → statement M
+sum-i32-spec =
     tie.close
     (tie.spec
     Inv-loop
     μ-loop
     loop-holds
-    mul-wide
-    shared-slice-read-wide
-    wide-requires
+    code-requires
     mix-requires
     add-i
     loop-less

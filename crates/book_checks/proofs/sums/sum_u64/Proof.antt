@@ -1,10 +1,10 @@
--- `book_checks::areas::sum_u64` is safe and ends: the index is at most the number of numbers of 64 bits, and the measure is what is left of it.
+-- `book_checks::sums::sum_u64` is safe and ends: the index is at most the number of numbers of 64 bits, and the measure is what is left of it.
 -- Assumes nothing.
 use Prim.Native.Nat.{_≤_, _-_}
 use lib.ListN.{length}
 use borrow.Author.Needs.{needs}
-use Rattle.book_checks.proofs.areas.sum_u64.Statement.{statement}
-use Rattle.book_checks.proofs.areas.sum_u64.Tie as tie
+use Rattle.book_checks.proofs.sums.sum_u64.Statement.{statement}
+use Rattle.book_checks.proofs.sums.sum_u64.Tie as tie
 
 abbrev Inv-loop : tie.InvT-loop
 Inv-loop s start sum₀ i₀ sum i = i ≤ length s
