@@ -56,7 +56,6 @@ fn read_only(
             head: head_after(head, command, name),
         };
     }
-    let at = script::after(command, 1, b' ');
     let answer = lookup::lookup(
         head,
         root_children,
@@ -66,7 +65,7 @@ fn read_only(
         words,
         frequencies,
         logarithms,
-        &command[at..],
+        script::rest(command, 1),
     );
     Answer {
         reply: calls::found(answer),
@@ -87,7 +86,6 @@ fn call(
     command: &[u8],
     name: u8,
 ) -> Answer {
-    let at = script::after(command, 1, b' ');
     match name {
         b'p' => calls::prepared(
             head,
@@ -110,23 +108,20 @@ fn call(
             words,
             frequencies,
             logarithms,
-            &command[at..],
+            script::rest(command, 1),
         )),
-        b'a' => {
-            let end = script::find(command, at, b' ');
-            calls::added(addition::add_word(
-                head,
-                root_children,
-                root_words,
-                keys,
-                children,
-                words,
-                frequencies,
-                logarithms,
-                &command[at..end],
-                script::number(command, 2),
-            ))
-        }
+        b'a' => calls::added(addition::add_word(
+            head,
+            root_children,
+            root_words,
+            keys,
+            children,
+            words,
+            frequencies,
+            logarithms,
+            script::field(command, 1),
+            script::number(command, 2),
+        )),
         _ => {
             stores::store_in_root(root_children, root_words, command);
             stores::store_in_slots(keys, children, words, command);

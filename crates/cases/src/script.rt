@@ -51,6 +51,19 @@ pub fn name(command: &[u8]) -> u8 {
     command[0]
 }
 
+// A command from a field on, the name being field 0.
+pub fn rest(command: &[u8], number: u64) -> &[u8] {
+    let at = after(command, number, b' ');
+    &command[at..]
+}
+
+// A field of a command.
+pub fn field(command: &[u8], number: u64) -> &[u8] {
+    let at = after(command, number, b' ');
+    let end = find(command, at, b' ');
+    &command[at..end]
+}
+
 // A number with another digit behind it, where it is one and 64 bits have room for it; else the number as it is.
 fn with_digit(n: u64, digit: u8) -> u64 {
     if digit < 0x30 {
@@ -65,7 +78,7 @@ fn with_digit(n: u64, digit: u8) -> u64 {
     n * 10 + (digit as u64 - 0x30)
 }
 
-// The number in a field of a command, the name being field 0.
+// The number in a field of a command.
 pub fn number(command: &[u8], field: u64) -> u64 {
     let mut n: u64 = 0;
     let mut i = after(command, field, b' ');

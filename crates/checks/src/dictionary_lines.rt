@@ -1,7 +1,7 @@
 // Frequencies, and lines of a dictionary text: where the word stands, in bytes, and its frequency.
-use crate::output::print;
 use crate::output::print_bytes;
-use crate::output::print_decimal;
+use cases::output::print;
+use cases::output::print_decimal;
 use lines::Frequency;
 use lines::Line;
 

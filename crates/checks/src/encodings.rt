@@ -1,6 +1,5 @@
 // RFC 3629's table of well-formed byte sequences, found by reading: which second bytes go with which lead bytes, over all pairs, and
 // which third and fourth bytes are read.
-use crate::output::print;
 use crate::output::print_number_of;
 use crate::output::print_range;
 use crate::sweep::ENDED;
@@ -8,6 +7,7 @@ use crate::sweep::Question;
 use crate::sweep::answer;
 use crate::sweep::print_ranges;
 use crate::sweep::run_end;
+use cases::output::print;
 
 const BYTES: u32 = 0x100;
 

@@ -1,6 +1,6 @@
 // Document 01's logarithm L, as the double that a record holds.
-use crate::output::print;
-use crate::output::print_decimal;
+use cases::output::print;
+use cases::output::print_decimal;
 
 // A double in decimal, where it is a whole number from 0 to below 2^64.
 fn print_whole(x: f64) {

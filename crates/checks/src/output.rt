@@ -1,16 +1,8 @@
-// What the groups print with: text, numbers, ranges of numbers, bytes, and what stands at a position of a text.
-use libc::STDOUT_FILENO;
+// What the groups print with beside text and numbers: ranges of numbers, bytes, and what stands at a position of a text.
+use cases::output::print;
+use cases::output::print_decimal;
 use utf8::Character;
 ghost use Prim.Native.Nat.{_≤_, _<_};
-
-// Bytes as they stand.
-pub fn print(text: &[u8]) {
-    io::write_all(STDOUT_FILENO, text);
-}
-
-pub fn print_decimal(n: u64) {
-    io::print_decimal(STDOUT_FILENO, n);
-}
 
 fn digit(d: u32) -> u8
     requires { ⌜ d < 16 ⌝ }

@@ -1,7 +1,7 @@
 // A sweep asks one question of each number from 0 up, and prints the ranges of numbers that it answers alike.
-use crate::output::print;
 use crate::output::print_number_of;
 use crate::output::print_range;
+use cases::output::print;
 use utf8::Character;
 ghost use Prim.Native.Nat.{_≤_, _<_};
 

@@ -1,9 +1,9 @@
 // Characters and whole texts, written out byte by byte: RFC 3629's boundaries, texts that are cut short, and counts.
-use crate::output::print;
 use crate::output::print_bytes;
 use crate::output::print_character;
-use crate::output::print_decimal;
 use crate::output::print_number_of;
+use cases::output::print;
+use cases::output::print_decimal;
 use utf8::CharCount;
 ghost use Prim.Native.Nat.{_≤_, _<_};
 ghost use lib.ListN.{length};

@@ -12,8 +12,48 @@ use book::Head;
 use cases::output::print;
 use cases::output::print_command;
 use cases::script;
+use cuts::Cut;
 use cuts::TokenizeMode;
 ghost use Prim.Native.Nat.{_≤_};
+
+// The line of a cut into words, with the areas that it leaves.
+fn print_tokenized(
+    command: &[u8],
+    answer: Cut,
+    head: Head,
+    book_records: usize,
+    slots: usize,
+    chars: &[u32],
+    offsets: &[u32],
+    starts: &[usize],
+    scores: &[f64],
+    ends: &[u32],
+    records: &[u32],
+    edge_ends: &[u32],
+    edge_records: &[u32],
+    tokens: &[u32],
+) {
+    let unchanged = kept::are_sevens(
+        chars,
+        offsets,
+        starts,
+        scores,
+        ends,
+        records,
+        edge_ends,
+        edge_records,
+    );
+    line::print_answer(
+        command,
+        answer,
+        tokens,
+        head,
+        book_records,
+        slots,
+        b"work and edges",
+        unchanged,
+    );
+}
 
 // Cuts in the areas that are lent, and prints the line. The sentence starts at a field of the command.
 fn tokenize_in(
@@ -38,7 +78,6 @@ fn tokenize_in(
     edge_records: &mut [u32],
     tokens: &mut [u32],
 ) {
-    let at = script::after(command, field, b' ');
     let answer = tokenize::tokenize(
         head,
         root_children,
@@ -48,7 +87,7 @@ fn tokenize_in(
         words,
         frequencies,
         logarithms,
-        &command[at..],
+        script::rest(command, field),
         mode,
         chars,
         offsets,
@@ -60,7 +99,12 @@ fn tokenize_in(
         edge_records,
         tokens,
     );
-    let unchanged = kept::are_sevens(
+    print_tokenized(
+        command,
+        answer,
+        head,
+        frequencies.len(),
+        keys.len(),
         chars,
         offsets,
         starts,
@@ -69,16 +113,7 @@ fn tokenize_in(
         records,
         edge_ends,
         edge_records,
-    );
-    line::print_answer(
-        command,
-        answer,
         tokens,
-        head,
-        frequencies.len(),
-        keys.len(),
-        b"work and edges",
-        unchanged,
     );
 }
 
@@ -155,7 +190,6 @@ fn cut_all_in(
     offsets: &mut [u32],
     tokens: &mut [u32],
 ) {
-    let at = script::after(command, 4, b' ');
     let answer = cut_all::cut_all(
         head,
         root_children,
@@ -165,7 +199,7 @@ fn cut_all_in(
         words,
         frequencies,
         logarithms,
-        &command[at..],
+        script::rest(command, 4),
         chars,
         offsets,
         tokens,
