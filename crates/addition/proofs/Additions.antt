@@ -42,14 +42,19 @@ by-decision b word frequency (Replace n total) p = refl
 by-decision b word frequency (Insert slots nodes total) p = refl
 
 -- the test of the head, before the decision or within it
-by-head : (b : Book) (word : List ℕ) (frequency : ℕ) → addBy b word frequency (enter b word frequency) ≡ cond (damagedHead b) (addRefused b Outcome.Damaged) (addBy b word frequency (decide b word frequency))
+by-head : (b : Book) (word : List ℕ) (frequency : ℕ)
+    → addBy b word frequency (enter b word frequency)
+    ≡ cond (damagedHead b) (addRefused b Outcome.Damaged) (addBy b word frequency (decide b word frequency))
 by-head b word frequency = go (damagedHead b)
   where
-    go : (t : Bool) → addBy b word frequency (cond t (Refuse Outcome.Damaged) (decide b word frequency)) ≡ cond t (addRefused b Outcome.Damaged) (addBy b word frequency (decide b word frequency))
+    go : (t : Bool) → addBy b word frequency (cond t (Refuse Outcome.Damaged) (decide b word frequency))
+        ≡ cond t (addRefused b Outcome.Damaged) (addBy b word frequency (decide b word frequency))
     go true = refl
     go false = refl
 
-by-entering : (b : Book) (word : List ℕ) (frequency : ℕ) → addOn (enterText b (some word) frequency) frequency ≡ cond (damagedHead b) (addRefused b Outcome.Damaged) (addBy b word frequency (decide b word frequency))
+by-entering : (b : Book) (word : List ℕ) (frequency : ℕ)
+    → addOn (enterText b (some word) frequency) frequency
+    ≡ cond (damagedHead b) (addRefused b Outcome.Damaged) (addBy b word frequency (decide b word frequency))
 unfolding enterText
 by-entering b word frequency = by-decision b word frequency (enter b word frequency) (entering b word frequency) ∙ by-head b word frequency
 
@@ -67,7 +72,8 @@ module _ (b : Book) (word : List ℕ) (frequency : ℕ) where
   by-chars (some []) e = refl
   by-chars (some (c ∷ cs)) e = rw (e, by-entering b (c ∷ cs) frequency)
 
-  by-length : (t : Bool) → addTested b word frequency (cond t (testedChars (charsOf word)) (Refused TooLong)) ≡ cond t (addChars b (charsOf word) frequency) (addRefused b TooLong)
+  by-length : (t : Bool) → addTested b word frequency (cond t (testedChars (charsOf word)) (Refused TooLong))
+      ≡ cond t (addChars b (charsOf word) frequency) (addRefused b TooLong)
   by-length true = by-chars (charsOf word) refl
   by-length false = refl
 
@@ -83,18 +89,25 @@ module _ (b : Book) (word : List ℕ) (frequency : ℕ) where
 
 -- ---- the answers, as they are given: with the head and the areas as they are left
 
-module _ (head : Head) (trie : CharTrie) (f : List ℕ) (l : List Float) (word : List ℕ) (frequency : ℕ) {t : WordTest} (tested : t ≡ testedWord (sized (bookOf head trie f l)) word) where
-  pub refused : {o : Outcome} → t ≡ Refused o → {r : Added} → r ≡ notAdded head o → addAnswer (r .outcome) (r .frequency) (bookOf (r .head) trie f l) ≡ addOf (bookOf head trie f l) word frequency
+module _ (head : Head) (trie : CharTrie) (f : List ℕ) (l : List Float) (word : List ℕ) (frequency : ℕ) {t : WordTest}
+    (tested : t ≡ testedWord (sized (bookOf head trie f l)) word) where
+  pub refused : {o : Outcome} → t ≡ Refused o → {r : Added} → r ≡ notAdded head o
+      → addAnswer (r .outcome) (r .frequency) (bookOf (r .head) trie f l) ≡ addOf (bookOf head trie f l) word frequency
   refused e q = rw q (rw e at (by-tests (bookOf head trie f l) word frequency tested))
 
-  pub empty : t ≡ Empty → {r : Added} → r ≡ notAdded head Done → addAnswer (r .outcome) (r .frequency) (bookOf (r .head) trie f l) ≡ addOf (bookOf head trie f l) word frequency
+  pub empty : t ≡ Empty → {r : Added} → r ≡ notAdded head Done
+      → addAnswer (r .outcome) (r .frequency) (bookOf (r .head) trie f l) ≡ addOf (bookOf head trie f l) word frequency
   empty e q = rw q (rw e at (by-tests (bookOf head trie f l) word frequency tested))
 
   module _ (e : t ≡ Word) where
-    pub too-frequent : greatestTotal < frequency → {r : Added} → r ≡ notAdded head BadFrequency → addAnswer (r .outcome) (r .frequency) (bookOf (r .head) trie f l) ≡ addOf (bookOf head trie f l) word frequency
+    pub too-frequent : greatestTotal < frequency → {r : Added} → r ≡ notAdded head BadFrequency
+        → addAnswer (r .outcome) (r .frequency) (bookOf (r .head) trie f l) ≡ addOf (bookOf head trie f l) word frequency
     too-frequent g q = rw q (rw (e, lt-leb frequency greatestTotal g) at (by-tests (bookOf head trie f l) word frequency tested))
 
-    pub answered : frequency ≤ greatestTotal → (trie₁ : CharTrie) (f₁ : List ℕ) (l₁ : List Float) {a : Entered} → enterAnswer (a .outcome) (bookOf (a .head) trie₁ f₁ l₁) ≡ enterText (bookOf head trie f l) (charsOf word) frequency
-        → {r : Added} → r ≡ addedBy a frequency → addAnswer (r .outcome) (r .frequency) (bookOf (r .head) trie₁ f₁ l₁) ≡ addOf (bookOf head trie f l) word frequency
+    pub answered : frequency ≤ greatestTotal → (trie₁ : CharTrie) (f₁ : List ℕ) (l₁ : List Float) {a : Entered}
+        → enterAnswer (a .outcome) (bookOf (a .head) trie₁ f₁ l₁) ≡ enterText (bookOf head trie f l) (charsOf word) frequency
+        → {r : Added} → r ≡ addedBy a frequency → addAnswer (r .outcome) (r .frequency) (bookOf (r .head) trie₁ f₁ l₁)
+        ≡ addOf (bookOf head trie f l) word frequency
     answered g trie₁ f₁ l₁ enters q =
-        rw q (ap (λ (x : EnterAnswer). addOn x frequency) enters ∙ (rw (e, le-leb frequency greatestTotal g) at (by-tests (bookOf head trie f l) word frequency tested)))
+        rw q (ap (λ (x : EnterAnswer). addOn x frequency) enters
+        ∙ (rw (e, le-leb frequency greatestTotal g) at (by-tests (bookOf head trie f l) word frequency tested)))

@@ -60,8 +60,11 @@ pub fn add_word(
     word: &[u8],
     frequency: u64,
 ) -> Added
-    ensures { λ r. ⌜ addAnswer (r .outcome) (r .frequency) (bookLeft (r .head) «root_children» «root_words» keys children words frequencies logarithms) ≡ addOf (bookLent head «root_children» «root_words» keys children words frequencies logarithms) (was word) frequency ⌝ }
-    ensures { λ r. ⌜ addedReturns (r .outcome) (r .frequency) ≡ addReturns (bookLent head «root_children» «root_words» keys children words frequencies logarithms) (was word) frequency ⌝ }
+    ensures { λ r. ⌜ addAnswer (r .outcome) (r .frequency)
+        (bookLeft (r .head) «root_children» «root_words» keys children words frequencies logarithms)
+        ≡ addOf (bookLent head «root_children» «root_words» keys children words frequencies logarithms) (was word) frequency ⌝ }
+    ensures { λ r. ⌜ addedReturns (r .outcome) (r .frequency)
+        ≡ addReturns (bookLent head «root_children» «root_words» keys children words frequencies logarithms) (was word) frequency ⌝ }
 {
     match lookup::test_word(
         root_children.len(),

@@ -9,7 +9,8 @@ use Rattle.lines.specs.Lines.{linesOf, meaningOf, fieldsOf, pieces, frequencyOf
 use Rattle.classes.specs.WhiteSpace.{whiteSpace}
 use Rattle.classes.specs.Ranges.{inRanges}
 use Rattle.classes.specs.Blocks.{cutClass, han, hanMain, hanExtension, asciiLetterOrDigit, cutSign}
-use Rattle.trie.specs.Trie.{getOf, walk, wordAt, wordNumber, testedStep, openStep, bitsAt, fromRoot, nodeAt, probeOf, probeFrom, nextSlot, startSlot, log2, keyOf, filterHash, keyBit, childBit, reach, newSlots, withBits, withWord, emptyFrom, emptySlot, extend, insert}
+use Rattle.trie.specs.Trie.{getOf, walk, wordAt, wordNumber, testedStep, openStep, bitsAt, fromRoot, nodeAt, probeOf, probeFrom, nextSlot, startSlot, log2}
+use Rattle.trie.specs.Trie.{keyOf, filterHash, keyBit, childBit, reach, newSlots, withBits, withWord, emptyFrom, emptySlot, extend, insert}
 use Rattle.trie.specs.SlotCounts.{slotCount}
 use Rattle.arith.specs.Bits.{hasBit, withBit}
 use Rattle.book.specs.Returns.{allowed, headDamaged, emptyBook}
@@ -22,10 +23,17 @@ use Rattle.cuts.specs.Blocks.{blocksOf}
 use Rattle.cuts.specs.Edges.{walksOf, edgesWithin}
 use Rattle.cuts.specs.Tokens.{stepsFrom, piecesOf, joined, cutRoute, singly, tokenOf}
 use Rattle.cuts.specs.Cuts.{putSpans, cutBlock, cutBlocks, cutWith, cutOf}
-use Rattle.frames.specs.Frames.{bytesOf, byteOf, valueOf, kindOf, frameOf, fours, lineOf}
+use Rattle.printing.specs.Answers.{fours, lineOf}
+use Rattle.frames.specs.Frames.{bytesOf, byteOf, valueOf, kindOf, frameOf}
 use Rattle.answers.specs.Answers.{answerOf, answerBy, cutLine}
 use Rattle.answers.specs.Example.{ExampleFrames}
 
 pub example-frames : ExampleFrames
-unfolding charsOf charsWithin readFrom byteLength encode linesOf meaningOf fieldsOf pieces frequencyOf number whiteSpace inRanges cutClass han hanMain hanExtension asciiLetterOrDigit cutSign getOf walk wordAt wordNumber testedStep openStep bitsAt fromRoot nodeAt probeOf probeFrom nextSlot startSlot log2 keyOf filterHash keyBit childBit reach newSlots withBits withWord emptyFrom emptySlot extend insert slotCount hasBit withBit allowed headDamaged emptyBook decide emptySlots inserted loadLines loadOf wordsFrom walkOn logFloat L logOf highestOne significand nextBit nextSignificand bitsOf floatOf blocksOf walksOf edgesWithin choose routeOf stepsFrom piecesOf joined cutRoute singly tokenOf putSpans cutBlock cutBlocks cutWith cutOf leadingZeros span climb size odd units round neg sum add sub lt eq ofInt whole bytesOf byteOf valueOf kindOf frameOf fours lineOf answerOf answerBy cutLine
+unfolding charsOf charsWithin readFrom byteLength encode linesOf meaningOf fieldsOf pieces frequencyOf number whiteSpace inRanges cutClass han hanMain
+    hanExtension asciiLetterOrDigit cutSign getOf walk wordAt wordNumber testedStep openStep bitsAt fromRoot nodeAt probeOf probeFrom nextSlot
+    startSlot log2 keyOf filterHash keyBit childBit reach newSlots withBits withWord emptyFrom emptySlot extend insert slotCount hasBit withBit
+    allowed headDamaged emptyBook decide emptySlots inserted loadLines loadOf wordsFrom walkOn logFloat L logOf highestOne significand nextBit
+    nextSignificand bitsOf floatOf blocksOf walksOf edgesWithin choose routeOf stepsFrom piecesOf joined cutRoute singly tokenOf putSpans cutBlock
+    cutBlocks cutWith cutOf leadingZeros span climb size odd units round neg sum add sub lt eq ofInt whole bytesOf byteOf valueOf kindOf frameOf fours
+    lineOf answerOf answerBy cutLine
 example-frames = (refl, refl)

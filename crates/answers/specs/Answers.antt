@@ -1,5 +1,5 @@
 -- What the program `cutlines` answers to a line: document 01, "Examples by book", "Program `cutlines`". What a frame is and how an answer looks is in
--- `frames/specs/Frames.antt`; here is which call a frame asks for, in which areas, and what of its answer is printed.
+-- `frames/specs/Frames.antt` and `printing/specs/Answers.antt`; here is which call a frame asks for, in which areas, and what of its answer is printed.
 -- Assumes nothing.
 use Prim.Native.Nat.{ℕ, _+_, _*_, _≤_}
 use mathlib.Core.List.{List, []}
@@ -11,7 +11,8 @@ use Rattle.cuts.specs.Tokens.{tokenWidth}
 use Rattle.cuts.specs.Cuts.{CutAnswer, cutOf, cutAllOf, cutForSearchOf}
 use Rattle.frames.specs.declared.Kind.{Kind}
 use Rattle.frames.specs.declared.Kind.the-variants.{Load, Cut, CutAll, CutForSearch, NoFrame}
-use Rattle.frames.specs.Frames.{frameOf, lineOf, noFrameLine, Put}
+use Rattle.printing.specs.Answers.{lineOf, noFrameLine, Put}
+use Rattle.frames.specs.Frames.{frameOf}
 
 -- ---- "It lends 256 root entries, 1,024 slots, 256 records, 1,025 work, 1,024 edge, 512 token places."
 

@@ -1,6 +1,6 @@
-// Wrapping products and single bits: the arithmetic under the trie's hashes, keys and child pointers (trie.rs). Rattle has neither
-// `wrapping_mul` nor a type wider than 64 bits, so a product is taken by halves of 32 bits. A bit is read by a quotient and set by
-// a sum.
+//! Wrapping products and single bits: the arithmetic under the trie's hashes, keys and child pointers (trie.rs). Rattle has neither
+//! `wrapping_mul` nor a type wider than 64 bits, so a product is taken by halves of 32 bits. A bit is read by a quotient and set by
+//! a sum.
 ghost use mathlib.Core.Path.{_≡_};
 ghost use Prim.Native.Nat.{_*_, _%_, _^_, _<_};
 ghost use Rattle.arith.specs.Bits.{hasBit, withBit};

@@ -2,11 +2,12 @@
 -- Assumes nothing.
 use mathlib.Core.Path.{_≡_, refl, sym, ap, subst, _∙_}
 use mathlib.Core.Bool.{Bool, true, false}
-use mathlib.Core.List.{List, []}
-use Prim.Native.Nat.{ℕ, _≤_, _<_}
+use mathlib.Core.List.{List, [], _∷_}
+use Prim.Native.Nat.{ℕ, suc, _≤_, _<_}
 use native.Mathlib.Omega.{arith}
 use lib.Ieee.{Float}
 use lib.ListN.{length, getD, take}
+use lib.Seq.{length-take-le, getD-take}
 use Rattle.trie.specs.Trie.{CharTrie}
 use Rattle.score.specs.Logarithm.{logFloat}
 use Rattle.classes.specs.Blocks.{cutClass}
@@ -22,17 +23,31 @@ use Rattle.cuts.specs.Edges.{Edges, edges, stopped, vocabularyOf, walksOf, edge
 use Rattle.cuts.specs.Slices.{blockOf}
 use Rattle.cuts.specs.declared.TokenizeMode.{TokenizeMode}
 use Rattle.cuts.specs.declared.TokenizeMode.the-variants.{Default, Search}
-use Rattle.cuts.specs.Tokens.{Written, singly, cutRoute}
+use Rattle.cuts.specs.Tokens.{Span, Written, anyOf, singly, searched, cutRoute}
 use Rattle.cuts.specs.Cuts.{CutAnswer, answer, Base, putSpans, cutEdges, searchEdges, cutBlock, searchBlock}
 use Rattle.sparse_dag.specs.declared.Prefixes.{Prefixes}
 use Rattle.sparse_dag.specs.declared.Prefixes.the-variants as Prefixes
 use Rattle.sparse_dag.specs.Edges.{WalkedBlock}
-use Rattle.search.specs.Brought.{EndsRise}
-use Rattle.search.proofs.Rising.{ends-rise}
-use Rattle.block.specs.Routes.{Forward, HasEnds, tokensBy, blockBy, OneKind}
-use Rattle.block.proofs.Modes.{outside-by}
+use Rattle.search_words.specs.Rising.{EndsRise}
+use Rattle.search.proofs.Brought.{outside-class}
+use Rattle.search_words.proofs.Rising.{ends-rise}
+use Rattle.cut_route.specs.Routes.{Forward, HasEnds, tokensBy}
+use Rattle.block.specs.Plans.{blockBy, OneKind}
 
 -- ---- outside the class
+
+-- search brings each token alone
+none-of : (cs : List ℕ) → ((i : ℕ) → i < length cs → cutClass (getD cs i 0) ≡ false) → anyOf cutClass cs ≡ false
+none-of [] each = refl
+none-of (c ∷ cs) each = rw (each 0 (omega arith)) (none-of cs (λ i h. each (suc i) (omega arith)))
+
+outside-by : (chars : List ℕ) (n : ℕ) → n ≤ length chars → OneKind cutClass false n chars → (spans : List Span) → searched (take n chars) [] spans ≡ spans
+outside-by chars n long kind spans =
+    outside-class (take n chars)
+    (none-of (take n chars) (λ i h.
+    let inside : i < n = omega (arith, length-take-le n chars long) in
+    ap cutClass (getD-take n chars i 0 inside) ∙ kind i inside))
+    spans
 
 pub outside : (mode : TokenizeMode) (b : Book) (room : ℕ) (base : Base) (m : Bool) (chars : List ℕ) (n : ℕ) (w : Written) (a : CutAnswer) → m ≡ false
     → n ≤ length chars → OneKind cutClass m n chars
@@ -41,7 +56,8 @@ unfolding blockBy cutBlock searchBlock
 outside Default b room base m chars n w a other long kind same = rw other same
 outside Search b room base m chars n w a other long kind same =
     same
-    ∙ ap (putSpans base (take n chars) w) (sym (outside-by chars n long (subst (λ (k : Bool). OneKind cutClass k n chars) other kind) (singly 0 (take n chars))))
+    ∙ ap (putSpans base (take n chars) w) (sym (outside-by chars n long (subst (λ (k : Bool). OneKind cutClass k n chars) other kind)
+    (singly 0 (take n chars))))
     ∙ rw other refl
 
 -- ---- of the class
@@ -51,7 +67,8 @@ edgesBy : TokenizeMode → Float → Base → List ℕ → Written → Edges →
 edgesBy Default = cutEdges
 edgesBy Search = searchEdges
 
-module _ (mode : TokenizeMode) (b : Book) (n room : ℕ) (base : Base) (m : Bool) (cs : List ℕ) (w : Written) (starts ends records : List ℕ) (r : Prefixes) (of-class : m ≡ true)
+module _ (mode : TokenizeMode) (b : Book) (n room : ℕ) (base : Base) (m : Bool) (cs : List ℕ) (w : Written) (starts ends records : List ℕ)
+    (r : Prefixes) (of-class : m ≡ true)
     (walked : WalkedBlock b n room cs starts ends records r) where
   by-edges : (k : TokenizeMode) (e : Edges) → edgesWithin room (walksOf (wordsFrom b) 0 cs) ≡ e
       → blockBy k (vocabularyOf b) room base (blockOf m cs) w ≡ edgesBy k (logFloat (b .head .total)) base cs w e
@@ -65,7 +82,8 @@ module _ (mode : TokenizeMode) (b : Book) (n room : ℕ) (base : Base) (m : Bool
   stopped-by Search o = refl
 
   routed-by : (k : TokenizeMode) (rows : List (List Edge))
-      → putSpans base cs w (tokensBy k cs rows (cutRoute cs (routeOf (logFloat (b .head .total)) 0 rows))) ≡ edgesBy k (logFloat (b .head .total)) base cs w (edges rows)
+      → putSpans base cs w (tokensBy k cs rows (cutRoute cs (routeOf (logFloat (b .head .total)) 0 rows)))
+      ≡ edgesBy k (logFloat (b .head .total)) base cs w (edges rows)
   unfolding edgesBy tokensBy
   routed-by Default rows = refl
   routed-by Search rows = refl
@@ -78,9 +96,11 @@ module _ (mode : TokenizeMode) (b : Book) (n room : ℕ) (base : Base) (m : Bool
   stopped-damaged told = stopped-by mode Damaged ∙ sym (by-edges mode (stopped Damaged) (subst (WalkedBlock b n room cs starts ends records) told walked))
 
   -- "then that block's tokens": along the route, from the stored logarithms and L(total)
-  pub routed : (count : ℕ) → r ≡ Prefixes.Edges count → (logarithms : List Float) (logTotal : Float) → b .logarithms ≡ logarithms → logTotal ≡ logFloat (b .head .total)
+  pub routed : (count : ℕ) → r ≡ Prefixes.Edges count → (logarithms : List Float) (logTotal : Float) → b .logarithms ≡ logarithms
+      → logTotal ≡ logFloat (b .head .total)
       → (a : CutAnswer)
-      → a ≡ putSpans base cs w (tokensBy mode cs (rowsOf starts ends records logarithms n) (cutRoute cs (routeOf logTotal 0 (rowsOf starts ends records logarithms n))))
+      → a ≡ putSpans base cs w (tokensBy mode cs (rowsOf starts ends records logarithms n)
+      (cutRoute cs (routeOf logTotal 0 (rowsOf starts ends records logarithms n))))
       → a ≡ blockBy mode (vocabularyOf b) room base (blockOf m cs) w
   routed count told logarithms logTotal logs total a same =
       same
@@ -90,7 +110,8 @@ module _ (mode : TokenizeMode) (b : Book) (n room : ℕ) (base : Base) (m : Bool
 -- ---- what the route is given, and gives
 
 -- the walk's edges fit whatever book they are seen as, and their ends rise: here one that is made of what is lent
-pub edges-rise : (t : CharTrie) (logarithms : List Float) (used n room : ℕ) (cs starts ends records : List ℕ) (r : Prefixes) (count : ℕ) → used ≤ length logarithms → r ≡ Prefixes.Edges count
+pub edges-rise : (t : CharTrie) (logarithms : List Float) (used n room : ℕ) (cs starts ends records : List ℕ) (r : Prefixes) (count : ℕ)
+    → used ≤ length logarithms → r ≡ Prefixes.Edges count
     → ((b : Book) → b .trie ≡ t → b .head .records ≡ used → used ≤ length (b .logarithms) → WalkedBlock b n room cs starts ends records r)
     → EndsRise starts ends n
 edges-rise t logarithms used n room cs starts ends records r count within told walked =
@@ -98,7 +119,8 @@ edges-rise t logarithms used n room cs starts ends records r count within told w
     let its = subst (WalkedBlock b n room cs starts ends records) told (walked b refl refl within) in
     ends-rise b room cs starts ends records logarithms (length logarithms) n (its .0) (its .1)
 
-pub edges-fit : (t : CharTrie) (logarithms : List Float) (used n room : ℕ) (cs starts ends records : List ℕ) (r : Prefixes) (count : ℕ) → used ≤ length logarithms → r ≡ Prefixes.Edges count
+pub edges-fit : (t : CharTrie) (logarithms : List Float) (used n room : ℕ) (cs starts ends records : List ℕ) (r : Prefixes) (count : ℕ)
+    → used ≤ length logarithms → r ≡ Prefixes.Edges count
     → ((b : Book) → b .trie ≡ t → b .head .records ≡ used → used ≤ length (b .logarithms) → WalkedBlock b n room cs starts ends records r)
     → EdgesFit starts ends records (length logarithms) n
 edges-fit t logarithms used n room cs starts ends records r count within told walked =

@@ -1,5 +1,2 @@
--- The laws that the proofs of `block` rest on: the route's steps, what tokens bring by the mode, and a block by its parts.
-pub mod Letters
-pub mod Routes
-pub mod Modes
+-- The laws that the proof of `block` rests on: a block by its parts.
 pub mod Blocks

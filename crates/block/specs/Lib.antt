@@ -1,3 +1,2 @@
 -- The definitions that the contracts of `block` cite.
-pub mod Routes
 pub mod Plans

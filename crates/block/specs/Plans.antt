@@ -1,14 +1,21 @@
--- What a block is cut with: the book that is lent, and the places of the work area.
+-- What a block is cut with, the book that is lent and the places of the work area, and a block by the mode, in the terms of `cuts/specs/Cuts.antt`.
 -- Assumes nothing.
 use Prim.Native.Nat.{ℕ, _<_}
+use mathlib.Core.Bool.{Bool}
 use mathlib.Core.List.{List}
 use mathlib.Core.Path.{_≡_}
 use lib.Ieee.{Float}
-use lib.ListN.{length}
+use lib.ListN.{length, getD}
 use Rattle.trie.specs.Trie.{CharTrie}
 use Rattle.score.specs.Logarithm.{logFloat}
 use Rattle.book.specs.Returns.{Book}
+use Rattle.cuts.specs.declared.TokenizeMode.{TokenizeMode}
+use Rattle.cuts.specs.declared.TokenizeMode.the-variants.{Default, Search}
 use Rattle.cuts.specs.Slices.{SeenAs}
+use Rattle.cuts.specs.Blocks.{Block}
+use Rattle.cuts.specs.Edges.{Vocabulary}
+use Rattle.cuts.specs.Tokens.{Written}
+use Rattle.cuts.specs.Cuts.{CutAnswer, Base, cutBlock, searchBlock}
 use Rattle.block.specs.declared.Plan.{Plan}
 
 -- what a cut is lent of a book: the trie and the records' logarithms, and with the plan how many of these are used and L of the total
@@ -25,3 +32,12 @@ pub record WorkFits (n : ℕ) (chars offsets starts : List ℕ) (scores : List F
   pub in-scores : n < length scores
   pub in-ends : n < length ends
   pub in-records : n < length records
+
+-- a block of `cut` or of `cut_for_search`
+unfoldable pub blockBy : TokenizeMode → Vocabulary → ℕ → Base → Block → Written → CutAnswer
+blockBy Default = cutBlock
+blockBy Search = searchBlock
+
+-- the characters of a block of n characters are all of the class, or all not
+abbrev pub OneKind : (ℕ → Bool) → Bool → ℕ → List ℕ → Type 0
+OneKind class matched n chars = (i : ℕ) → i < n → class (getD chars i 0) ≡ matched

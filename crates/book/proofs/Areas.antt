@@ -9,6 +9,7 @@ use lib.ListN.{length}
 use Rattle.trie.specs.Trie.{SlotCount}
 use Rattle.trie.proofs.Slots.{slot-count-tested, size}
 use Rattle.walk.specs.Walk.{EquallyLong}
+use Rattle.trie.specs.SlotCounts.{mostSlots}
 use Rattle.book.specs.Returns.{allowed}
 use Rattle.book.proofs.Sizes.{Sizes, sizes}
 
@@ -16,7 +17,7 @@ module _ (a b c d e f g : ℕ) (h : allowed a b c d e f g ≡ true) where
   pub slot-count : SlotCount c
   slot-count = slot-count-tested c .0 (sizes a b c d e f g h .slots)
 
-  pub slots-most : c ≤ 4194304
+  pub slots-most : c ≤ mostSlots
   slots-most = size c slot-count .1
 
 pub equally-long : (rc : List ℕ) (rw' : List ℤ) (k c : List ℕ) (w : List ℤ) (f g : ℕ)

@@ -10,7 +10,7 @@ use lib.ListN.{length}
 use Rattle.book.specs.declared.Decision.the-variants.{Refuse, Replace, Insert}
 use Rattle.book.specs.declared.Head.{Head}
 use Rattle.book.specs.declared.Outcome.the-variants.{TotalTooLarge, RecordsFull, SlotsFull, Damaged}
-use Rattle.book.specs.Returns.{greatestTotal, lastNode}
+use Rattle.book.specs.Returns.{greatestTotal, greatestNext}
 use Rattle.book.specs.Enter.{replaceBy, noRecord, emptySlots, insertBy}
 
 -- ---- a word that is held
@@ -47,10 +47,22 @@ module _ (h : Head) (records : ℕ) (keys : List ℕ) (slots nodes frequency : �
             rw (le-ltb greatestTotal (h .total + frequency) a, b, le-ltb (length keys * 6) ((h .slots + slots) * 8) c, g)
 
         module _ (d : ltb (emptySlots keys) slots ≡ false) where
-          pub nodes-missing : lastNode < h .next + nodes → Refuse Damaged ≡ insertBy h records keys slots nodes frequency
+          pub nodes-missing : greatestNext < h .next + nodes → Refuse Damaged ≡ insertBy h records keys slots nodes frequency
           nodes-missing g =
-              rw (le-ltb greatestTotal (h .total + frequency) a, b, le-ltb (length keys * 6) ((h .slots + slots) * 8) c, d, lt-ltb lastNode (h .next + nodes) g)
+              rw (
+                le-ltb greatestTotal (h .total + frequency) a,
+                b,
+                le-ltb (length keys * 6) ((h .slots + slots) * 8) c,
+                d,
+                lt-ltb greatestNext (h .next + nodes) g,
+              )
 
-          pub new-enters : h .next + nodes ≤ lastNode → Insert slots nodes (h .total + frequency) ≡ insertBy h records keys slots nodes frequency
+          pub new-enters : h .next + nodes ≤ greatestNext → Insert slots nodes (h .total + frequency) ≡ insertBy h records keys slots nodes frequency
           new-enters g =
-              rw (le-ltb greatestTotal (h .total + frequency) a, b, le-ltb (length keys * 6) ((h .slots + slots) * 8) c, d, le-ltb lastNode (h .next + nodes) g)
+              rw (
+                le-ltb greatestTotal (h .total + frequency) a,
+                b,
+                le-ltb (length keys * 6) ((h .slots + slots) * 8) c,
+                d,
+                le-ltb greatestNext (h .next + nodes) g,
+              )

@@ -5,7 +5,8 @@ use mathlib.Core.Bool.{true}
 use native.Mathlib.Omega.{arith}
 use borrow.Author.Tests.{eqb-true}
 use Rattle.book.specs.declared.Outcome.{Outcome}
-use Rattle.book.specs.declared.Outcome.the-variants.{Done, BadAreas, TooLong, Malformed, BadFrequency, TotalTooLarge, RecordsFull, SlotsFull, Damaged, WorkTooShort, EdgesFull, TokensFull}
+use Rattle.book.specs.declared.Outcome.the-variants.{Done, BadAreas, TooLong, Malformed, BadFrequency, TotalTooLarge, RecordsFull, SlotsFull, Damaged}
+use Rattle.book.specs.declared.Outcome.the-variants.{WorkTooShort, EdgesFull, TokensFull}
 use Rattle.book.specs.Returns.{numberOf, isDone}
 
 pub done-only : (o : Outcome) → numberOf o ≡ 0 → o ≡ Done

@@ -8,7 +8,7 @@ use borrow.Author.Tests.{leb-true, ltb-false, eqb-true}
 use lib.Dec.{leb, ltb, eqb}
 use Rattle.trie.specs.SlotCounts.{slotCount}
 use Rattle.book.specs.declared.Head.{Head}
-use Rattle.book.specs.Returns.{allowed, headDamaged, greatestTotal, lastNode}
+use Rattle.book.specs.Returns.{mostEntries, mostRecords, allowed, headDamaged, greatestTotal, greatestNext}
 
 -- ---- tests joined by and, and by or
 
@@ -30,20 +30,20 @@ pub record Sizes (rootChildren rootWords keys children words frequencies logarit
   pub slot-children : children ≡ keys
   pub slot-words : words ≡ keys
   pub records-least : 1 ≤ frequencies
-  pub records-most : frequencies ≤ 1048576
+  pub records-most : frequencies ≤ mostRecords
   pub record-logarithms : logarithms ≡ frequencies
 
 pub sizes : (a b c d e f g : ℕ) → allowed a b c d e f g ≡ true → Sizes a b c d e f g
 unfolding allowed
 sizes a b c d e f g h =
-    let p8 = both (leb 1 a && leb a 65536 && eqb b a && slotCount c && eqb d c && eqb e c && leb 1 f && leb f 1048576) (eqb g f) h in
-    let p7 = both (leb 1 a && leb a 65536 && eqb b a && slotCount c && eqb d c && eqb e c && leb 1 f) (leb f 1048576) (p8 .0) in
-    let p6 = both (leb 1 a && leb a 65536 && eqb b a && slotCount c && eqb d c && eqb e c) (leb 1 f) (p7 .0) in
-    let p5 = both (leb 1 a && leb a 65536 && eqb b a && slotCount c && eqb d c) (eqb e c) (p6 .0) in
-    let p4 = both (leb 1 a && leb a 65536 && eqb b a && slotCount c) (eqb d c) (p5 .0) in
-    let p3 = both (leb 1 a && leb a 65536 && eqb b a) (slotCount c) (p4 .0) in
-    let p2 = both (leb 1 a && leb a 65536) (eqb b a) (p3 .0) in
-    let p1 = both (leb 1 a) (leb a 65536) (p2 .0) in
+    let p8 = both (leb 1 a && leb a mostEntries && eqb b a && slotCount c && eqb d c && eqb e c && leb 1 f && leb f mostRecords) (eqb g f) h in
+    let p7 = both (leb 1 a && leb a mostEntries && eqb b a && slotCount c && eqb d c && eqb e c && leb 1 f) (leb f mostRecords) (p8 .0) in
+    let p6 = both (leb 1 a && leb a mostEntries && eqb b a && slotCount c && eqb d c && eqb e c) (leb 1 f) (p7 .0) in
+    let p5 = both (leb 1 a && leb a mostEntries && eqb b a && slotCount c && eqb d c) (eqb e c) (p6 .0) in
+    let p4 = both (leb 1 a && leb a mostEntries && eqb b a && slotCount c) (eqb d c) (p5 .0) in
+    let p3 = both (leb 1 a && leb a mostEntries && eqb b a) (slotCount c) (p4 .0) in
+    let p2 = both (leb 1 a && leb a mostEntries) (eqb b a) (p3 .0) in
+    let p1 = both (leb 1 a) (leb a mostEntries) (p2 .0) in
     record {
       roots-least = leb-true _ _ (p1 .0);
       roots-most = leb-true _ _ (p1 .1);
@@ -64,13 +64,15 @@ pub record HeadWithin (h : Head) (records slots : ℕ) : Type 0 where
   pub load : h .slots * 8 ≤ slots * 6
   pub total-most : h .total ≤ greatestTotal
   pub next-least : 1 ≤ h .next
-  pub next-most : h .next ≤ lastNode
+  pub next-most : h .next ≤ greatestNext
 
 pub head-within : (h : Head) (records slots : ℕ) → headDamaged h records slots ≡ false → HeadWithin h records slots
 unfolding headDamaged
 head-within h records slots e =
-    let p5 = neither (ltb slots (h .slots) || ltb records (h .records) || ltb (slots * 6) (h .slots * 8) || ltb greatestTotal (h .total) || ltb (h .next) 1) (ltb lastNode (h .next)) e in
-    let p4 = neither (ltb slots (h .slots) || ltb records (h .records) || ltb (slots * 6) (h .slots * 8) || ltb greatestTotal (h .total)) (ltb (h .next) 1) (p5 .0) in
+    let p5 = neither (ltb slots (h .slots) || ltb records (h .records) || ltb (slots * 6) (h .slots * 8) || ltb greatestTotal (h .total) || ltb
+    (h .next) 1) (ltb greatestNext (h .next)) e in
+    let p4 = neither (ltb slots (h .slots) || ltb records (h .records) || ltb (slots * 6) (h .slots * 8) || ltb greatestTotal (h .total))
+    (ltb (h .next) 1) (p5 .0) in
     let p3 = neither (ltb slots (h .slots) || ltb records (h .records) || ltb (slots * 6) (h .slots * 8)) (ltb greatestTotal (h .total)) (p4 .0) in
     let p2 = neither (ltb slots (h .slots) || ltb records (h .records)) (ltb (slots * 6) (h .slots * 8)) (p3 .0) in
     let p1 = neither (ltb slots (h .slots)) (ltb records (h .records)) (p2 .0) in

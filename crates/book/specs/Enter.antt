@@ -23,7 +23,7 @@ use Rattle.book.specs.declared.Outcome.{Outcome}
 use Rattle.book.specs.declared.Outcome.the-variants.{Done, BadAreas, TooLong, Malformed, BadFrequency, TotalTooLarge, RecordsFull, SlotsFull, Damaged}
 use Rattle.book.specs.declared.Decision.{Decision}
 use Rattle.book.specs.declared.Decision.the-variants.{Refuse, Replace, Insert}
-use Rattle.book.specs.Returns.{Book, sized, longestText, greatestTotal, lastNode, damagedHead}
+use Rattle.book.specs.Returns.{Book, sized, longestText, greatestTotal, greatestNext, damagedHead}
 
 -- ---- a word enters: the decision
 
@@ -60,7 +60,7 @@ insertBy h records keys slots nodes frequency =
     (cond (noRecord h records) (Refuse RecordsFull)
     (cond (ltb (length keys * 6) ((h .slots + slots) * 8)) (Refuse SlotsFull)
     (cond (ltb (emptySlots keys) slots) (Refuse Damaged)
-    (cond (ltb lastNode (h .next + nodes)) (Refuse Damaged)
+    (cond (ltb greatestNext (h .next + nodes)) (Refuse Damaged)
     (Insert slots nodes (h .total + frequency))))))
 
 abbrev pub decideNew : Book → ℕ → ℕ → ℕ → Decision

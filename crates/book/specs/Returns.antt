@@ -16,7 +16,8 @@ use Rattle.trie.specs.Trie.{CharTrie, noWord, getOf}
 use Rattle.score.specs.Scores.{whole, floatOf}
 use Rattle.book.specs.declared.Head.{Head}
 use Rattle.book.specs.declared.Outcome.{Outcome}
-use Rattle.book.specs.declared.Outcome.the-variants.{Done, BadAreas, TooLong, Malformed, BadFrequency, TotalTooLarge, RecordsFull, SlotsFull, Damaged, WorkTooShort, EdgesFull, TokensFull}
+use Rattle.book.specs.declared.Outcome.the-variants.{Done, BadAreas, TooLong, Malformed, BadFrequency, TotalTooLarge, RecordsFull, SlotsFull, Damaged}
+use Rattle.book.specs.declared.Outcome.the-variants.{WorkTooShort, EdgesFull, TokensFull}
 use Rattle.book.specs.declared.Prepared.{Prepared}
 use Rattle.book.specs.declared.Prepared.the-variants.{Ready, Refused}
 use Rattle.book.specs.declared.Found.{Found}
@@ -49,13 +50,21 @@ pub record Book : Type 0 where
 
 -- ---- sizes
 
+-- "1 to 65,536 entries"
+abbrev pub mostEntries : ℕ
+mostEntries = 65536
+
+-- "1 to 1,048,576 records"
+abbrev pub mostRecords : ℕ
+mostRecords = 1048576
+
 -- "a root table of 1 to 65,536 entries, a power of two of slots from 16 to 4,194,304, and 1 to 1,048,576 records";
 -- "slices of one part of a book must be equally long": the lengths of the root's two, the slots' three and the records' two
 unfoldable pub allowed : ℕ → ℕ → ℕ → ℕ → ℕ → ℕ → ℕ → Bool
 allowed rootChildren rootWords keys children words frequencies logarithms =
-    leb 1 rootChildren && leb rootChildren 65536 && eqb rootWords rootChildren
+    leb 1 rootChildren && leb rootChildren mostEntries && eqb rootWords rootChildren
     && slotCount keys && eqb children keys && eqb words keys
-    && leb 1 frequencies && leb frequencies 1048576 && eqb logarithms frequencies
+    && leb 1 frequencies && leb frequencies mostRecords && eqb logarithms frequencies
 
 abbrev pub sized : Book → Bool
 sized b =
@@ -73,15 +82,15 @@ longestText = 16777215
 abbrev pub greatestTotal : ℕ
 greatestTotal = 4294967295
 
--- "next node outside 1 to 16,777,215"
-abbrev pub lastNode : ℕ
-lastNode = 16777215
+-- "next node outside 1 to 16,777,215": the last node that is given out is the one before it
+abbrev pub greatestNext : ℕ
+greatestNext = 16777215
 
 -- "Damage: head values beyond the areas, slots used × 8 above slots × 6, total above 4,294,967,295, next node outside 1 to 16,777,215"
 unfoldable pub headDamaged : Head → ℕ → ℕ → Bool
 headDamaged h records slots =
     ltb slots (h .slots) || ltb records (h .records) || ltb (slots * 6) (h .slots * 8)
-    || ltb greatestTotal (h .total) || ltb (h .next) 1 || ltb lastNode (h .next)
+    || ltb greatestTotal (h .total) || ltb (h .next) 1 || ltb greatestNext (h .next)
 
 abbrev pub damagedHead : Book → Bool
 damagedHead b = headDamaged (b .head) (length (b .frequencies)) (length (b .trie .keys))

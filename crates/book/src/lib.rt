@@ -6,7 +6,8 @@ ghost use Prim.Native.Nat.{_-_, _≤_, _<_};
 ghost use lib.Dec.{leb};
 ghost use lib.ListN.{length};
 ghost use Rattle.trie.specs.Lent.{was};
-ghost use Rattle.book.specs.Returns.{numberOf, isDone, allowed, headDamaged};
+ghost use Rattle.book.specs.Returns.{numberOf, isDone, longestText, greatestTotal, greatestNext, allowed, headDamaged};
+ghost use Rattle.trie.specs.SlotCounts.{mostSlots};
 ghost use Rattle.book.specs.Enter.{noRecord, nextRecord, emptySlots, replaceBy, insertBy};
 
 // The numbers of document 01's table, by their meaning.
@@ -97,14 +98,20 @@ pub fn is_done(outcome: Outcome) -> bool
     number_of(outcome) == 0
 }
 
+// The most entries of a root table.
+const MOST_ENTRIES: usize = 65_536;
+
+// The most records.
+const MOST_RECORDS: usize = 1_048_576;
+
 // The longest text that is read.
 pub const LONGEST_TEXT: usize = 16_777_215;
 
 // The greatest frequency, and the greatest total.
 pub const GREATEST_TOTAL: u64 = 4_294_967_295;
 
-// The last node number that is given out, plus one.
-pub const LAST_NODE: u64 = 16_777_215;
+// The greatest number of the next node: the last that is given out is the one before it.
+pub const GREATEST_NEXT: u64 = 16_777_215;
 
 // The nodes for which a search for empty slots starts at one place.
 const STAY: u64 = 1_024;
@@ -127,19 +134,19 @@ pub fn is_allowed(
     ensures { λ r. ⌜ r ≡ allowed «root_children» «root_words» keys children words frequencies logarithms ⌝ }
 {
     (1 <= root_children)
-        & (root_children <= 65_536)
+        & (root_children <= MOST_ENTRIES)
         & (root_words == root_children)
         & trie::is_slot_count(keys)
         & (children == keys)
         & (words == keys)
         & (1 <= frequencies)
-        & (frequencies <= 1_048_576)
+        & (frequencies <= MOST_RECORDS)
         & (logarithms == frequencies)
 }
 
 // Whether a head is damaged, in a book of so many records and slots.
 pub fn is_head_damaged(head: Head, records: usize, slots: usize) -> bool
-    requires { ⌜ slots ≤ 4194304 ⌝ }
+    requires { ⌜ slots ≤ mostSlots ⌝ }
     ensures { λ r. ⌜ r ≡ headDamaged head records slots ⌝ }
 {
     if (slots as u64) < head.slots {
@@ -149,7 +156,7 @@ pub fn is_head_damaged(head: Head, records: usize, slots: usize) -> bool
         | (slots as u64 * 6 < head.slots * 8)
         | (GREATEST_TOTAL < head.total)
         | (head.next < 1)
-        | (LAST_NODE < head.next)
+        | (GREATEST_NEXT < head.next)
 }
 
 // How many empty slots are still wanted after these, of so many. It looks no further than it has to.
@@ -182,7 +189,7 @@ fn has_empty(keys: &[u64], start: usize, count: u64) -> bool
 // Where a new word's search for empty slots starts: a place that goes far each time it moves, so that a long run of taken slots
 // is not passed again for every new word. It stays for some nodes, since a search that is much like the last one is quicker.
 fn search_start(next: u64, slots: usize) -> usize
-    requires { ⌜ (next ≤ 16777215) × (slots ≤ 4194304) ⌝ }
+    requires { ⌜ (next ≤ greatestNext) × (slots ≤ mostSlots) ⌝ }
     ensures { λ r. ⌜ r ≤ slots ⌝ }
 {
     let part = (next / STAY + 1) * GOLDEN % PARTS;
@@ -205,7 +212,7 @@ pub fn next_record(head: Head) -> u64
 
 // How a word that is held enters, by the total, its record's old frequency and that record.
 pub fn decide_held(total: u64, old: u32, n: usize, frequency: u64) -> Decision
-    requires { ⌜ (total ≤ 4294967295) × (frequency ≤ 4294967295) ⌝ }
+    requires { ⌜ (total ≤ greatestTotal) × (frequency ≤ greatestTotal) ⌝ }
     ensures { λ r. ⌜ r ≡ replaceBy total old n frequency ⌝ }
 {
     let old = old as u64;
@@ -228,9 +235,9 @@ pub fn decide_new(
     nodes: u64,
     frequency: u64,
 ) -> Decision
-    requires { ⌜ (length (now keys) ≤ 4194304) × (head .slots ≤ length (now keys)) ⌝ }
-    requires { ⌜ (head .total ≤ 4294967295) × (head .next ≤ 16777215) × (frequency ≤ 4294967295) ⌝ }
-    requires { ⌜ (slots ≤ 16777215) × (nodes ≤ 16777215) ⌝ }
+    requires { ⌜ (length (now keys) ≤ mostSlots) × (head .slots ≤ length (now keys)) ⌝ }
+    requires { ⌜ (head .total ≤ greatestTotal) × (head .next ≤ greatestNext) × (frequency ≤ greatestTotal) ⌝ }
+    requires { ⌜ (slots ≤ longestText) × (nodes ≤ longestText) ⌝ }
     ensures { λ r. ⌜ r ≡ insertBy head records (was keys) slots nodes frequency ⌝ }
 {
     let total = head.total + frequency;
@@ -246,7 +253,7 @@ pub fn decide_new(
     if !has_empty(keys, search_start(head.next, keys.len()), slots) {
         return Decision::Refuse(Outcome::Damaged);
     }
-    if LAST_NODE < head.next + nodes {
+    if GREATEST_NEXT < head.next + nodes {
         return Decision::Refuse(Outcome::Damaged);
     }
     Decision::Insert(slots, nodes, total)

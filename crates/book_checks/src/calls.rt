@@ -3,7 +3,7 @@ use addition::Added;
 use book::Found;
 use book::Head;
 use book::Prepared;
-use dict::Loaded;
+use load_lines::Loaded;
 
 // What a command answers: nothing, where it only stores; else document 01's number, with what comes beside it.
 pub enum Reply {

@@ -5,7 +5,7 @@ use mathlib.Core.Bool.{true}
 use Prim.Native.Nat.{ℕ, _≤_}
 use borrow.Author.Tests.{leb-true, le-leb, eqb-true, eq-eqb}
 use Rattle.trie.specs.SlotCounts.{slotCount}
-use Rattle.book.specs.Returns.{allowed}
+use Rattle.book.specs.Returns.{mostRecords, allowed}
 use Rattle.built.specs.Calls.{allowedSizes}
 use Rattle.built.proofs.Keys.{both}
 
@@ -17,11 +17,12 @@ pub record Limits (rootChildren rootWords keys children words frequencies logari
   pub children-long : children ≡ keys
   pub words-long : words ≡ keys
   pub records-least : 1 ≤ frequencies
-  pub records-most : frequencies ≤ 1048576
+  pub records-most : frequencies ≤ mostRecords
   pub logarithms-long : logarithms ≡ frequencies
 
 module _ (rootChildren rootWords keys children words frequencies logarithms : ℕ) where
-  pub limits-of : allowed rootChildren rootWords keys children words frequencies logarithms ≡ true → Limits rootChildren rootWords keys children words frequencies logarithms
+  pub limits-of : allowed rootChildren rootWords keys children words frequencies logarithms ≡ true
+      → Limits rootChildren rootWords keys children words frequencies logarithms
   unfolding allowed
   limits-of e =
       let t8 = both _ _ e in
@@ -44,7 +45,8 @@ module _ (rootChildren rootWords keys children words frequencies logarithms : �
         logarithms-long = eqb-true _ _ (t8 .1);
       }
 
-  pub allowed-of : Limits rootChildren rootWords keys children words frequencies logarithms → allowed rootChildren rootWords keys children words frequencies logarithms ≡ true
+  pub allowed-of : Limits rootChildren rootWords keys children words frequencies logarithms
+      → allowed rootChildren rootWords keys children words frequencies logarithms ≡ true
   unfolding allowed
   allowed-of l =
       rw (
@@ -60,7 +62,8 @@ module _ (rootChildren rootWords keys children words frequencies logarithms : �
       )
 
   -- then a book of these lengths starts from allowed sizes
-  pub as-sizes : Limits rootChildren rootWords keys children words frequencies logarithms → Limits rootChildren rootChildren keys keys keys frequencies frequencies
+  pub as-sizes : Limits rootChildren rootWords keys children words frequencies logarithms
+      → Limits rootChildren rootChildren keys keys keys frequencies frequencies
   as-sizes l = record {
     roots-least = l .roots-least;
     roots-most = l .roots-most;

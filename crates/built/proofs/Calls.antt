@@ -22,7 +22,8 @@ use Rattle.book.specs.declared.Outcome.the-variants.{TooLong, Malformed, BadFre
 use Rattle.book.specs.Returns.{numberOf, Book, longestText, greatestTotal, emptyBook}
 use Rattle.book.specs.Enter.{decide, replaced, inserted, AddAnswer, addRefused, addBy, addChars, addOf, LoadAnswer, loadAnswer, enter, loadLines, loadOf}
 use Rattle.built.specs.Ledger.{Entry, enterIn, ledgerAfterAdd, enterLine, enterLines, linesBefore, ledgerAfterLoad}
-use Rattle.built.specs.Calls.{Call, Load, Add, answerOf, bookAfter, ledgerAfter, bookAfterAll, answersOf, ledgerAfterAll, allowedSizes, bookFrom, answersFrom, ledgerFrom}
+use Rattle.built.specs.Calls.{Call, Load, Add, answerOf, bookAfter, ledgerAfter, bookAfterAll, answersOf, ledgerAfterAll, allowedSizes, bookFrom}
+use Rattle.built.specs.Calls.{answersFrom, ledgerFrom}
 use Rattle.built.specs.Built.{Built}
 use Rattle.built.specs.Claims.{NoneDamaged}
 use Rattle.built.proofs.LineWords.{text-characters, line-word}
@@ -40,7 +41,8 @@ module _ {b : Book} {ledger : List Entry} (built : Built b ledger) (text : List 
   unfolding ledgerAfterAdd
   add-refused o refused undamaged = (rw (ne-eqb _ _ refused) built, undamaged)
 
-  add-decided : (c : ℕ) (cs : List ℕ) → charsOf text ≡ some (c ∷ cs) → (d : Decision) → Decided built (c ∷ cs) frequency d → AddKept (addBy b (c ∷ cs) frequency d)
+  add-decided : (c : ℕ) (cs : List ℕ) → charsOf text ≡ some (c ∷ cs) → (d : Decision) → Decided built (c ∷ cs) frequency d
+      → AddKept (addBy b (c ∷ cs) frequency d)
   unfolding ledgerAfterAdd
   add-decided c cs e d (refuses {o} refused undamaged) = add-refused o refused undamaged
   add-decided c cs e d (replaces h) = (rw e h, (λ q. omega arith))
@@ -135,7 +137,14 @@ module _ {b : Book} {ledger : List Entry} (built : Built b ledger) (n : ℕ) whe
   -- a line refused
   line-refused : {l : List ℕ} {ls : List (List ℕ)} (o : Outcome) → numberOf o ≢ 0 → numberOf o ≢ 8 → LinesKept ledger n (l ∷ ls) (loadAnswer o (n + 1) b)
   unfolding enterLines
-  line-refused o refused undamaged = record { entered = 0; built = built; undamaged = undamaged; all-entered = λ e. absurd (refused e); line-after = λ e. omega arith }
+  line-refused o refused undamaged = record {
+    entered = 0;
+    built = built;
+    undamaged = undamaged;
+    all-entered = λ e. absurd (refused e);
+    line-after =
+        λ e. omega arith;
+  }
 
   -- no line left
   no-line : LinesKept ledger n [] (loadLines b n [])
@@ -175,7 +184,8 @@ module _ {b : Book} {ledger : List Entry} (built : Built b ledger) (text : List 
     where
       go : (t : Bool) → eqb (numberOf (a .outcome)) 0 ≡ t → Built (a .book) (ledgerAfterLoad ledger text (a .outcome) (a .line))
       go true done =
-          let every : take (k .entered) (linesOf text) ≡ linesOf text = ap (λ (n : ℕ). take n (linesOf text)) (k .all-entered (eqb-true _ _ done)) ∙ take-length (linesOf text) in
+          let every : take (k .entered) (linesOf text) ≡ linesOf text = ap (λ (n : ℕ). take n (linesOf text)) (k .all-entered (eqb-true _ _ done))
+          ∙ take-length (linesOf text) in
           rw done (subst (λ (ls : List (List ℕ)). Built (a .book) (enterLines ledger ls)) every (k .built))
       go false refused =
           let line : a .line ≡ 0 + k .entered + 1 = k .line-after (eqb-false _ _ refused) in

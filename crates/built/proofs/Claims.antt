@@ -17,7 +17,8 @@ use Rattle.book.specs.Returns.{Book, sized, longestText, emptyBook, emptied, pr
 use Rattle.built.specs.Ledger.{Entry, frequencyIn, foundInLedger, ledgerLookupChars, ledgerLookup, wordsAfter, ledgerWords}
 use Rattle.built.specs.Calls.{bookAfterAll, ledgerAfterAll, after}
 use Rattle.built.specs.Built.{Built}
-use Rattle.built.specs.Claims.{BuiltHasInvariant, PreparedIsBuilt, HeldAs, held, absent, HeldAsLedger, LookupAsLedger, WalkAsLedger, TotalIsSum, LedgerEachOnce, NoDamage, NoDamageAnswered, BitsHideNothing, TwoBooksWalkAlike}
+use Rattle.built.specs.Claims.{BuiltHasInvariant, PreparedIsBuilt, HeldAs, held, absent, HeldAsLedger, LookupAsLedger, WalkAsLedger, TotalIsSum}
+use Rattle.built.specs.Claims.{LedgerEachOnce, NoDamage, NoDamageAnswered, BitsHideNothing, TwoBooksWalkAlike}
 use Rattle.built.proofs.AllowedSizes.{lengths-allowed}
 use Rattle.built.proofs.Steps.{Characters, ends}
 use Rattle.built.proofs.LineWords.{scalar-within, scalars-within, text-characters}
@@ -29,7 +30,8 @@ pub built-has-invariant : BuiltHasInvariant
 built-has-invariant b ledger (after roots slots records calls sizes) = built-by-calls roots slots records calls sizes
 
 prepared-empty : (b : Book) → sized b ≡ true
-    → prepareOf (b .trie) (b .frequencies) (b .logarithms) ≡ emptied (emptyBook (length (b .trie .rootChildren)) (length (b .trie .keys)) (length (b .frequencies)))
+    → prepareOf (b .trie) (b .frequencies) (b .logarithms)
+    ≡ emptied (emptyBook (length (b .trie .rootChildren)) (length (b .trie .keys)) (length (b .frequencies)))
 unfolding prepareOf
 prepared-empty b sizes = rw sizes
 
@@ -39,7 +41,8 @@ prepared-is-built b sizes = (prepared-empty b sizes, after _ _ _ [] (lengths-all
 
 -- ---- the words
 
-got-in : (b : Book) (ledger : List Entry) → Built b ledger → (word : List ℕ) → Characters word → HeldAs b (frequencyIn ledger word) (getOf (b .head .records) (b .trie) word)
+got-in : (b : Book) (ledger : List Entry) → Built b ledger → (word : List ℕ) → Characters word
+    → HeldAs b (frequencyIn ledger word) (getOf (b .head .records) (b .trie) word)
 got-in b ledger built word w = got (built .tables) word w
 
 pub held-as-ledger : HeldAsLedger
@@ -104,7 +107,8 @@ bits-hide-nothing b ledger by word p c s sc e =
 
 -- ---- two books
 
-pub same-words : (ledger ledger′ : List Entry) (cs read : List ℕ) (at : ℕ) → ((n : ℕ) → frequencyIn ledger (read ++ take (suc n) cs) ≡ frequencyIn ledger′ (read ++ take (suc n) cs))
+pub same-words : (ledger ledger′ : List Entry) (cs read : List ℕ) (at : ℕ)
+    → ((n : ℕ) → frequencyIn ledger (read ++ take (suc n) cs) ≡ frequencyIn ledger′ (read ++ take (suc n) cs))
     → wordsAfter ledger read at cs ≡ wordsAfter ledger′ read at cs
 unfolding wordsAfter
 same-words ledger ledger′ [] read at same = refl

@@ -26,7 +26,8 @@ use Rattle.book.specs.declared.Decision.{Decision}
 use Rattle.book.specs.declared.Decision.the-variants.{Refuse, Replace, Insert}
 use Rattle.book.specs.declared.Outcome.{Outcome}
 use Rattle.book.specs.declared.Outcome.the-variants.{TotalTooLarge, RecordsFull, SlotsFull}
-use Rattle.book.specs.Returns.{numberOf, Book, greatestTotal, lastNode, headDamaged, damagedHead, sized}
+use Rattle.trie.specs.SlotCounts.{mostSlots}
+use Rattle.book.specs.Returns.{numberOf, Book, greatestTotal, greatestNext, headDamaged, damagedHead, sized}
 use Rattle.book.specs.Enter.{decideHeld, noRecord, emptySlots, decideNew, decideReached, decideAbsent, decide, enter, replaced, inserted}
 use Rattle.built.specs.Ledger.{Entry, frequencyIn, enterIn}
 use Rattle.built.specs.Built.{Agrees, not-entered, in-record, Built}
@@ -45,7 +46,7 @@ none-holds : (a b c d e f : Bool) → a ≡ false → b ≡ false → c ≡ fals
 none-holds a b c d e f ea eb ec ed ee ef = rw (ea, eb, ec, ed, ee, ef)
 
 module _ {b : Book} {ledger : List Entry} (built : Built b ledger) where
-  slots-few : length (b .trie .keys) ≤ 4194304
+  slots-few : length (b .trie .keys) ≤ mostSlots
   slots-few = slots-most (length (b .trie .keys)) (built .tables .sizes .slots)
 
   pub next-least : 1 ≤ b .head .next
@@ -54,7 +55,7 @@ module _ {b : Book} {ledger : List Entry} (built : Built b ledger) where
   next-within : b .head .next ≤ 1 + b .head .slots + length (b .trie .rootChildren)
   next-within = next-fits (built .tables .sizes) (built .tables .store)
 
-  pub next-most : b .head .next ≤ lastNode
+  pub next-most : b .head .next ≤ greatestNext
   next-most = omega (arith, next-within, built .tables .store .load, built .tables .sizes .roots-most, slots-few)
 
   pub head-undamaged : damagedHead b ≡ false
@@ -88,11 +89,13 @@ module _ {b : Book} {ledger : List Entry} (built : Built b ledger) where
   pub data Decided (word : List ℕ) (frequency : ℕ) : Decision → Type 0 where
     refuses : {o : Outcome} → numberOf o ≢ 0 → numberOf o ≢ 8 → Decided word frequency (Refuse o)
     replaces : {n total : ℕ} → Built (replaced b n frequency total) (enterIn ledger word frequency) → Decided word frequency (Replace n total)
-    inserts : {slots nodes total : ℕ} → Built (inserted b word frequency slots nodes total) (enterIn ledger word frequency) → Decided word frequency (Insert slots nodes total)
+    inserts : {slots nodes total : ℕ} → Built (inserted b word frequency slots nodes total) (enterIn ledger word frequency)
+        → Decided word frequency (Insert slots nodes total)
 
   module _ (word : List ℕ) (frequency : ℕ) where
     -- a held word
-    module _ (m n : ℕ) (known : m < b .head .next) (named : built .name m ≡ reverse word) (its-record : wordAt (b .head .records) (b .trie) (built .place m) ≡ Record n) where
+    module _ (m n : ℕ) (known : m < b .head .next) (named : built .name m ≡ reverse word)
+        (its-record : wordAt (b .head .records) (b .trie) (built .place m) ≡ Record n) where
       agrees : Agrees b ledger word (Record n)
       agrees = record-agrees (built .tables) word m n known named its-record
 
@@ -140,12 +143,13 @@ module _ {b : Book} {ledger : List Entry} (built : Built b ledger) where
       abbrev taken : ParentRef → List ℕ → ℕ
       taken p rest = newSlots (b .trie) p rest
 
-      new-decided : (p : ParentRef) (rest : List ℕ) → reach (b .trie) Root word ≡ Reached p rest → Decided word frequency (decideNew b (taken p rest) (length rest) frequency)
+      new-decided : (p : ParentRef) (rest : List ℕ) → reach (b .trie) Root word ≡ Reached p rest
+          → Decided word frequency (decideNew b (taken p rest) (length rest) frequency)
       new-decided p rest far = go _ _ _ _ _ refl refl refl refl refl
         where
           go : (t5 t6 t7 t8 t9 : Bool) → ltb greatestTotal (b .head .total + frequency) ≡ t5 → noRecord (b .head) (length (b .frequencies)) ≡ t6
               → ltb (length (b .trie .keys) * 6) ((b .head .slots + taken p rest) * 8) ≡ t7 → ltb (emptySlots (b .trie .keys)) (taken p rest) ≡ t8
-              → ltb lastNode (b .head .next + length rest) ≡ t9
+              → ltb greatestNext (b .head .next + length rest) ≡ t9
               → Decided word frequency
               (cond t5 (Refuse TotalTooLarge) (cond t6 (Refuse RecordsFull) (cond t7 (Refuse SlotsFull)
               (cond t8 (Refuse Outcome.Damaged) (cond t9 (Refuse Outcome.Damaged) (Insert (taken p rest) (length rest) (b .head .total + frequency)))))))
@@ -158,7 +162,7 @@ module _ {b : Book} {ledger : List Entry} (built : Built b ledger) where
               absurd (omega (arith, built .tables .store .slot-count))
           go false false false false true e5 e6 e7 e8 e9 =
               let room : (b .head .slots + taken p rest) * 8 ≤ length (b .trie .keys) * 6 = ltb-false _ _ e7 in
-              let many : lastNode < b .head .next + length rest = ltb-true _ _ e9 in
+              let many : greatestNext < b .head .next + length rest = ltb-true _ _ e9 in
               absurd (omega (arith, nodes-most p rest, next-within, slots-few, built .tables .sizes .roots-most))
           go false false false false false e5 e6 e7 e8 e9 =
               let room : (b .head .slots + taken p rest) * 8 ≤ length (b .trie .keys) * 6 = ltb-false _ _ e7 in

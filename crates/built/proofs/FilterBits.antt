@@ -93,7 +93,8 @@ pub record BitsSet (t t′ : CharTrie) (p : ParentRef) (c : ℕ) : Type 0 where
   pub probe-same : (key : ℕ) → probeOf (t′ .keys) key ≡ probeOf (t .keys) key
 
 -- tries that have the same parts of a step have the same step
-pub same-parts : (t t′ : CharTrie) (p : ParentRef) (c : ℕ) → fromRoot t′ p c ≡ fromRoot t p c → eqb (getD (t′ .rootChildren) c 0) 0 ≡ eqb (getD (t .rootChildren) c 0) 0
+pub same-parts : (t t′ : CharTrie) (p : ParentRef) (c : ℕ) → fromRoot t′ p c ≡ fromRoot t p c
+    → eqb (getD (t′ .rootChildren) c 0) 0 ≡ eqb (getD (t .rootChildren) c 0) 0
     → nodeAt t′ p ≡ nodeAt t p → ((key : ℕ) → probeOf (t′ .keys) key ≡ probeOf (t .keys) key) → openStep t′ p c ≡ openStep t p c
 same-parts t t′ p c root entry node probe = step-tests t′ p c ∙ (rw (root, entry, node, probe (keyOf (nodeAt t p) c))) ∙ sym (step-tests t p c)
 
@@ -102,7 +103,8 @@ module _ (t : CharTrie) (i c : ℕ) (filled : InUse t (RootEntry i)) where
   with-entry = withBits t (RootEntry i) c
 
   entry-empty : (k : ℕ) → eqb (getD (withBitIn (t .rootChildren) i (childBit c)) k 0) 0 ≡ eqb (getD (t .rootChildren) k 0) 0
-  entry-empty k = set-keeps (λ x y. eqb x 0 ≡ eqb y 0) (λ x. refl) (t .rootChildren) i _ (ne-eqb _ _ (is-never-zero _ (childBit c)) ∙ sym (ne-eqb _ _ (filled .1))) k
+  entry-empty k = set-keeps (λ x y. eqb x 0 ≡ eqb y 0) (λ x. refl) (t .rootChildren) i _
+      (ne-eqb _ _ (is-never-zero _ (childBit c)) ∙ sym (ne-eqb _ _ (filled .1))) k
 
   entry-node : (p : ParentRef) → nodeAt with-entry p ≡ nodeAt t p
   unfolding nodeAt withBits

@@ -53,7 +53,8 @@ pub record Grown (t t′ : CharTrie) (next : ℕ) (place : ℕ → ParentRef) (p
   pub childless : (d : ℕ) (q : ParentRef) → d < 2 ^ 21 → openStep t′ new d ≢ At q
   pub node-kept : (n : ℕ) → n < next → nodeAt t′ (place n) ≡ nodeAt t (place n)
   pub step-kept : (n d : ℕ) (q : ParentRef) → n < next → openStep t (place n) d ≡ At q → openStep t′ (place n) d ≡ At q
-  pub step-back : (n d : ℕ) (q : ParentRef) → n < next → d < 2 ^ 21 → openStep t′ (place n) d ≡ At q → (openStep t (place n) d ≡ At q) ⊎ ((n ≡ parent) × (d ≡ c) × (q ≡ new))
+  pub step-back : (n d : ℕ) (q : ParentRef) → n < next → d < 2 ^ 21 → openStep t′ (place n) d ≡ At q
+      → (openStep t (place n) d ≡ At q) ⊎ ((n ≡ parent) × (d ≡ c) × (q ≡ new))
   pub bits-there : bitsAt t (place parent) c ≡ true
   pub bits-kept : (n d : ℕ) → n < next → bitsAt t (place n) d ≡ true → bitsAt t′ (place n) d ≡ true
   pub word-kept : (used n : ℕ) → n < next → wordAt used t′ (place n) ≡ wordAt used t (place n)
@@ -137,7 +138,8 @@ module _ {t t′ : CharTrie} {next : ℕ} {name : ℕ → List ℕ} {place : ℕ
       child-by n s (inl h) = old-child n s h
       child-by n s (inr e) = rw e new-child
 
-      back : (n d : ℕ) (q : ParentRef) → n < next → d < 2 ^ 21 → (openStep t (place n) d ≡ At q) ⊎ ((n ≡ parent) × (d ≡ c) × (q ≡ new)) → LedTo t′ (next + 1) name′ place′ n d q
+      back : (n d : ℕ) (q : ParentRef) → n < next → d < 2 ^ 21 → (openStep t (place n) d ≡ At q) ⊎ ((n ≡ parent) × (d ≡ c) × (q ≡ new))
+          → LedTo t′ (next + 1) name′ place′ n d q
       back n d q h l (inl e) = old-led n d q h l e
       back n d q h l (inr e) = rw (e .0, e .1, e .2) new-led
 

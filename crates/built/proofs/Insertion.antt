@@ -16,7 +16,8 @@ use Rattle.trie.specs.declared.ParentRef.the-variants.{RootEntry, Slot}
 use Rattle.trie.specs.declared.Probe.the-variants.{Empty}
 use Rattle.trie.specs.declared.Step.{Step}
 use Rattle.trie.specs.declared.Step.the-variants.{At, Nothing, Damaged}
-use Rattle.trie.specs.Trie.{CharTrie, keyOf, probeOf, emptySlot, nodeAt, fromRoot, openStep, bitsAt, Reach, Reached, NoEnd, reach, newSlots, withBits, withWord, newRootEntry, newSlot, extend, insert}
+use Rattle.trie.specs.Trie.{CharTrie, keyOf, probeOf, emptySlot, nodeAt, fromRoot, openStep, bitsAt, Reach, Reached, NoEnd, reach, newSlots, withBits}
+use Rattle.trie.specs.Trie.{withWord, newRootEntry, newSlot, extend, insert}
 use Rattle.book.specs.Returns.{Book}
 use Rattle.built.specs.Ledger.{Entry}
 use Rattle.built.specs.Built.{Tables, updateAt}
@@ -92,7 +93,8 @@ extend-slot : (t : CharTrie) (p : ParentRef) (c : ℕ) (cs : List ℕ) (node : �
 unfolding extend
 extend-slot t p c cs node number j key k e f = rw (e, extend, k, f, extend, k)
 
-module _ {b : Book} {ledger : List Entry} {t : CharTrie} {next slots : ℕ} {name : ℕ → List ℕ} {place : ℕ → ParentRef} (tables : Tables b ledger t next slots name place)
+module _ {b : Book} {ledger : List Entry} {t : CharTrie} {next slots : ℕ} {name : ℕ → List ℕ} {place : ℕ → ParentRef}
+    (tables : Tables b ledger t next slots name place)
     (n c : ℕ) (known : n < next) (within : c < 2 ^ 21) where
   filled : InUse t (place n)
   filled = place-in-use (tables .tree) (tables .sizes) n known
@@ -117,7 +119,8 @@ module _ {b : Book} {ledger : List Entry} {t : CharTrie} {next slots : ℕ} {nam
   }
 
   -- in the root table, whose steps start at the root and need no bits
-  new-entry : openStep t (place n) c ≡ Nothing → fromRoot t (place n) c ≡ true → getD (t .rootChildren) c 0 ≡ 0 → Stepped b ledger t next slots (place n) c (name n)
+  new-entry : openStep t (place n) c ≡ Nothing → fromRoot t (place n) c ≡ true → getD (t .rootChildren) c 0 ≡ 0
+      → Stepped b ledger t next slots (place n) c (name n)
   unfolding bitsAt fromRoot
   new-entry absent on free =
       let bits : bitsAt t (place n) c ≡ true = rw (from-root-is-root t (place n) c on) in
@@ -132,7 +135,8 @@ module _ {b : Book} {ledger : List Entry} {t : CharTrie} {next slots : ℕ} {nam
       }
 
   -- among the slots: the bits change neither the step nor its probe
-  new-slot : openStep t (place n) c ≡ Nothing → fromRoot t (place n) c ≡ false → (j : ℕ) → probeOf (t .keys) (keyOf n c) ≡ Empty j → (slots + 1) * 8 ≤ length (t .keys) * 6
+  new-slot : openStep t (place n) c ≡ Nothing → fromRoot t (place n) c ≡ false → (j : ℕ) → probeOf (t .keys) (keyOf n c) ≡ Empty j
+      → (slots + 1) * 8 ≤ length (t .keys) * 6
       → Stepped b ledger t next (slots + 1) (place n) c (name n)
   unfolding fromRoot
   new-slot absent off j met room =
@@ -146,7 +150,8 @@ module _ {b : Book} {ledger : List Entry} {t : CharTrie} {next slots : ℕ} {nam
       record {
         trie = newSlot t′ j (keyOf n c) next;
         place = Slot j;
-        standing = new-node (newSlot t′ j (keyOf n c) next) (slots + 1) (Slot j) (slot-tables marked-tables n c known within absent′ (m .bits-there) off′ j met′ room′);
+        standing = new-node (newSlot t′ j (keyOf n c) next) (slots + 1) (Slot j)
+            (slot-tables marked-tables n c known within absent′ (m .bits-there) off′ j met′ room′);
         leaf = slot-is-leaf marked-tables n c known within absent′ (m .bits-there) off′ j met′;
         below = λ d. refl;
         slots-same = length-set (t′ .keys) j (keyOf n c) ∙ m .slots-same;
@@ -160,7 +165,8 @@ module _ {b : Book} {ledger : List Entry} {t : CharTrie} {next slots : ℕ} {nam
       go : Stops t (place n) c → Stepped b ledger t next (taken (fromRoot t (place n) c) slots) (place n) c (name n)
       go (no-root on free) = rw on (new-entry absent on free)
       go (no-slot j off met) =
-          let its-probe : probeOf (t .keys) (keyOf n c) ≡ Empty j = subst (λ (k : ℕ). probeOf (t .keys) (keyOf k c) ≡ Empty j) (node-of-place (tables .tree) n known) met in
+          let its-probe : probeOf (t .keys) (keyOf n c) ≡ Empty j =
+          subst (λ (k : ℕ). probeOf (t .keys) (keyOf k c) ≡ Empty j) (node-of-place (tables .tree) n known) met in
           rw off (new-slot absent off j its-probe (rw off at room))
 
   -- a step that is there
@@ -171,21 +177,25 @@ module _ {b : Book} {ledger : List Entry} {t : CharTrie} {next slots : ℕ} {nam
 
 -- ---- the same from a place and a name
 
-module _ {b : Book} {ledger : List Entry} {t : CharTrie} {next slots : ℕ} {p : ParentRef} {r : List ℕ} (s : Standing b ledger t next slots p r) (c : ℕ) (within : c < 2 ^ 21) where
+module _ {b : Book} {ledger : List Entry} {t : CharTrie} {next slots : ℕ} {p : ParentRef} {r : List ℕ} (s : Standing b ledger t next slots p r)
+    (c : ℕ) (within : c < 2 ^ 21) where
   bits-at : BitsSet t (withBits t p c) p c
   bits-at = subst (λ (q : ParentRef). BitsSet t (withBits t q c) q c) (s .placed) (marked (s .tables) (s .node) c (s .known) within)
 
   abbrev NewStep : ParentRef → List ℕ → Type 0
-  NewStep q m = openStep t q c ≡ Nothing → taken (fromRoot t q c) slots * 8 ≤ length (t .keys) * 6 → Stepped b ledger t next (taken (fromRoot t q c) slots) q c m
+  NewStep q m = openStep t q c ≡ Nothing → taken (fromRoot t q c) slots * 8 ≤ length (t .keys) * 6
+      → Stepped b ledger t next (taken (fromRoot t q c) slots) q c m
 
   new-from : NewStep p r
-  new-from = subst (λ (q : ParentRef). NewStep q r) (s .placed) (subst (NewStep (s .place (s .node))) (s .named) (new-step (s .tables) (s .node) c (s .known) within))
+  new-from = subst (λ (q : ParentRef). NewStep q r) (s .placed)
+      (subst (NewStep (s .place (s .node))) (s .named) (new-step (s .tables) (s .node) c (s .known) within))
 
   abbrev OldStep : ParentRef → List ℕ → Type 0
   OldStep q m = (x : ParentRef) → openStep t q c ≡ At x → Standing b ledger (withBits t q c) next slots x (c ∷ m)
 
   old-from : OldStep p r
-  old-from = subst (λ (q : ParentRef). OldStep q r) (s .placed) (subst (OldStep (s .place (s .node))) (s .named) (old-step (s .tables) (s .node) c (s .known) within))
+  old-from = subst (λ (q : ParentRef). OldStep q r) (s .placed)
+      (subst (OldStep (s .place (s .node))) (s .named) (old-step (s .tables) (s .node) c (s .known) within))
 
 -- ---- every step new
 
@@ -196,25 +206,29 @@ absent-by Nothing n d = refl
 absent-by Damaged n d = absurd (d refl)
 
 -- more steps after a first one
-laid-on : {b : Book} {ledger : List Entry} {t : CharTrie} {next slots slots′ : ℕ} {p : ParentRef} {c : ℕ} {r : List ℕ} (s : Stepped b ledger t next slots p c r) (cs : List ℕ)
+laid-on : {b : Book} {ledger : List Entry} {t : CharTrie} {next slots slots′ : ℕ} {p : ParentRef} {c : ℕ} {r : List ℕ}
+    (s : Stepped b ledger t next slots p c r) (cs : List ℕ)
     → Laid b ledger (next + 1 + length cs) (slots + length cs) (reverseAux cs (c ∷ r)) (extend (s .trie) (s .place) cs (next + 1))
     → slots + length cs ≡ slots′ → Laid b ledger (next + suc (length cs)) slots′ (reverseAux cs (c ∷ r)) (extend t p (c ∷ cs) next)
 laid-on s cs l count = relaid l (omega arith) count (s .continued cs)
 
 extend-leaf : {b : Book} {ledger : List Entry} (cs : List ℕ) {t : CharTrie} {next slots : ℕ} {p : ParentRef} {r : List ℕ} → Standing b ledger t next slots p r
-    → ((d : ℕ) (q : ParentRef) → d < 2 ^ 21 → openStep t p d ≢ At q) → ((d : ℕ) → fromRoot t p d ≡ false) → Characters cs → (slots + length cs) * 8 ≤ length (t .keys) * 6
+    → ((d : ℕ) (q : ParentRef) → d < 2 ^ 21 → openStep t p d ≢ At q) → ((d : ℕ) → fromRoot t p d ≡ false) → Characters cs
+    → (slots + length cs) * 8 ≤ length (t .keys) * 6
     → Laid b ledger (next + length cs) (slots + length cs) (reverseAux cs r) (extend t p cs next)
 unfolding extend
 extend-leaf [] s leaf below w room = laid-nothing s
 extend-leaf {b} {ledger} (c ∷ cs) {t} {next} {slots} {p} {r} s leaf below w room =
     let absent : openStep t p c ≡ Nothing = absent-by _ (λ q. leaf c q (w .0)) (undamaged-step (s .tables .sizes) (s .tables .store) p c) in
     let one : taken (fromRoot t p c) slots ≡ slots + 1 = rw (below c) in
-    let stepped : Stepped b ledger t next (slots + 1) p c r = subst (λ (k : ℕ). Stepped b ledger t next k p c r) one (new-from s c (w .0) absent (rw one (omega arith))) in
+    let stepped : Stepped b ledger t next (slots + 1) p c r =
+    subst (λ (k : ℕ). Stepped b ledger t next k p c r) one (new-from s c (w .0) absent (rw one (omega arith))) in
     let long = stepped .slots-same in
     laid-on stepped cs (extend-leaf cs (stepped .standing) (stepped .leaf) (stepped .below) (w .1) (omega arith)) (omega arith)
 
 -- from the first absent step on
-extend-absent : {b : Book} {ledger : List Entry} (c : ℕ) (cs : List ℕ) {t : CharTrie} {next slots : ℕ} {p : ParentRef} {r : List ℕ} → Standing b ledger t next slots p r
+extend-absent : {b : Book} {ledger : List Entry} (c : ℕ) (cs : List ℕ) {t : CharTrie} {next slots : ℕ} {p : ParentRef} {r : List ℕ}
+    → Standing b ledger t next slots p r
     → openStep t p c ≡ Nothing → Characters (c ∷ cs) → (taken (fromRoot t p c) slots + length cs) * 8 ≤ length (t .keys) * 6
     → Laid b ledger (next + suc (length cs)) (taken (fromRoot t p c) slots + length cs) (reverseAux cs (c ∷ r)) (extend t p (c ∷ cs) next)
 extend-absent c cs s absent w room =
@@ -244,7 +258,8 @@ module _ {t t′ : CharTrie} {p : ParentRef} {c : ℕ} (m : BitsSet t t′ p c) 
   bits-reach : (cs : List ℕ) (q : ParentRef) → reach t′ q cs ≡ reach t q cs
   unfolding reach
   bits-reach [] q = refl
-  bits-reach (d ∷ ds) q = reach-step t′ q d ds ∙ ap (reachBy t′ q d ds) (m .alike .step-same q d) ∙ go (openStep t q d) (bits-reach ds) ∙ sym (reach-step t q d ds)
+  bits-reach (d ∷ ds) q = reach-step t′ q d ds ∙ ap (reachBy t′ q d ds) (m .alike .step-same q d) ∙ go (openStep t q d) (bits-reach ds)
+      ∙ sym (reach-step t q d ds)
     where
       go : (s : Step) → ((q : ParentRef) → reach t′ q ds ≡ reach t q ds) → reachBy t′ q d ds s ≡ reachBy t q d ds s
       go (At x) rest = rest x
@@ -273,7 +288,8 @@ module _ (b : Book) (ledger : List Entry) (next slots : ℕ) where
   abbrev pub Room : CharTrie → ParentRef → List ℕ → Type 0
   Room t q rest = (slots + newSlots t q rest) * 8 ≤ length (t .keys) * 6
 
-  insert-absent : (c : ℕ) (cs : List ℕ) {t : CharTrie} {p : ParentRef} {r : List ℕ} → Standing b ledger t next slots p r → Characters (c ∷ cs) → openStep t p c ≡ Nothing
+  insert-absent : (c : ℕ) (cs : List ℕ) {t : CharTrie} {p : ParentRef} {r : List ℕ} → Standing b ledger t next slots p r → Characters (c ∷ cs)
+      → openStep t p c ≡ Nothing
       → Room t p (c ∷ cs) → LaidFrom t p r (c ∷ cs) p (c ∷ cs)
   unfolding insert
   insert-absent c cs {t} {p} s w absent room =
@@ -298,7 +314,8 @@ module _ (b : Book) (ledger : List Entry) (next slots : ℕ) where
       (subst (λ (ds : List ℕ). Room t p ds → LaidFrom t p r (c ∷ cs) p ds) left (insert-absent c cs s w absent)) room
   insert-step c cs {t} {p} s w q rest room others Damaged e far = absurd (undamaged-step (s .tables .sizes) (s .tables .store) p c e)
 
-  pub insert-lays : (cs : List ℕ) {t : CharTrie} {p : ParentRef} {r : List ℕ} → Standing b ledger t next slots p r → Characters cs → (q : ParentRef) (rest : List ℕ)
+  pub insert-lays : (cs : List ℕ) {t : CharTrie} {p : ParentRef} {r : List ℕ} → Standing b ledger t next slots p r → Characters cs
+      → (q : ParentRef) (rest : List ℕ)
       → reach t p cs ≡ Reached q rest → Room t q rest → LaidFrom t p r cs q rest
   unfolding reach insert newSlots
   insert-lays [] {t} {p} {r} s w q rest far room = let left : [] ≡ rest = cc in subst (λ (ds : List ℕ). LaidFrom t p r [] q ds) left (laid-nothing s)

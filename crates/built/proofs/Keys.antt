@@ -17,7 +17,7 @@ use lib.Pow.{pow-pos, pow-mono, shr-lt}
 use lib.Seq.{getD-set-same, getD-set-other}
 use Rattle.trie.specs.declared.Probe.the-variants.{Found, Empty, Endless}
 use Rattle.trie.specs.Trie.{log2, startSlot, probeOf, emptySlot}
-use Rattle.trie.specs.SlotCounts.{slotCount}
+use Rattle.trie.specs.SlotCounts.{mostSlots, slotCount}
 use Rattle.book.specs.Enter.{emptySlots}
 use Rattle.built.proofs.Probes.{Inside, inside, found-key, empty-key, first-empty, not-endless, found-kept, stored-found, seen, probe-same}
 
@@ -28,14 +28,14 @@ both true b e = (refl, e)
 both false b e = let z : _≡_ {A = ℕ} 0 1 = cc in absurd (omega arith)
 
 module _ (slots : ℕ) (count : slotCount slots ≡ true) where
-  tests : ((leb 16 slots ≡ true) × (leb slots 4194304 ≡ true)) × (eqb slots (2 ^ log2 slots) ≡ true)
+  tests : ((leb 16 slots ≡ true) × (leb slots mostSlots ≡ true)) × (eqb slots (2 ^ log2 slots) ≡ true)
   unfolding slotCount
   tests = let outer = both _ _ count in (both _ _ (outer .0), outer .1)
 
   pub slots-least : 16 ≤ slots
   slots-least = leb-true _ _ (tests .0 .0)
 
-  pub slots-most : slots ≤ 4194304
+  pub slots-most : slots ≤ mostSlots
   slots-most = leb-true _ _ (tests .0 .1)
 
   power : slots ≡ 2 ^ log2 slots
@@ -161,7 +161,8 @@ module _ (keys : List ℕ) (key : ℕ) where
 
 -- ---- a key stored to the empty slot where its probe ended
 
-module _ (keys : List ℕ) (key j : ℕ) (started : Started keys) (findable : Findable keys) (low : key % 2 ^ 48 ≡ key) (some : key ≢ 0) (met : probeOf keys key ≡ Empty j) where
+module _ (keys : List ℕ) (key j : ℕ) (started : Started keys) (findable : Findable keys) (low : key % 2 ^ 48 ≡ key) (some : key ≢ 0)
+    (met : probeOf keys key ≡ Empty j) where
   free : getD keys j 0 ≡ 0
   free = empty-zero keys key j met
 

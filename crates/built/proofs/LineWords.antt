@@ -64,7 +64,8 @@ fields-words cs w = non-empty-words (pieces cs) (pieces-characters cs w)
 
 -- ---- a line's word
 
-first-word : (fields : List (List ℕ)) → EachWord fields → (word : List ℕ) (frequency : ℕ) → meaningOfFields fields ≡ entry word frequency → (word ≢ []) × Characters word
+first-word : (fields : List (List ℕ)) → EachWord fields → (word : List ℕ) (frequency : ℕ) → meaningOfFields fields ≡ entry word frequency
+    → (word ≢ []) × Characters word
 first-word [] each word frequency e = let z : _≡_ {A = ℕ} 0 1 = cc in absurd (omega arith)
 first-word (w ∷ []) each word frequency e = let same : w ≡ word = cc in subst (λ (v : List ℕ). (v ≢ []) × Characters v) same (each .0, each .1)
 first-word (w ∷ f ∷ fs) each word frequency e = go (frequencyOf f) e

@@ -30,7 +30,8 @@ use Rattle.built.proofs.Steps.{Characters, undamaged-step, next-some, n
 abbrev pub met : List Edge → Walked
 met edges = record { edges = edges; damaged = false }
 
-module _ {b : Book} {ledger : List Entry} {t : CharTrie} {next slots : ℕ} {name : ℕ → List ℕ} {place : ℕ → ParentRef} (tables : Tables b ledger t next slots name place) where
+module _ {b : Book} {ledger : List Entry} {t : CharTrie} {next slots : ℕ} {name : ℕ → List ℕ} {place : ℕ → ParentRef}
+    (tables : Tables b ledger t next slots name place) where
   abbrev tree : Tree t next name place
   tree = tables .tree
 
@@ -99,12 +100,14 @@ module _ {b : Book} {ledger : List Entry} {t : CharTrie} {next slots : ℕ} {nam
       by-number m h e number en (not-entered f) = nowhere (sym (ap (frequencyIn ledger) (ap reverse e ∙ reverse-reverse word)) ∙ f)
       by-number m h e number en (in-record k f l) = at-node h e en
 
-      go : (s : Step) → Walks (reverse word) s → Located word (elim s [ At p ↦ gotByWord (wordAt (b .head .records) t p) | Nothing ↦ Absent | Damaged ↦ Got.Damaged ])
+      go : (s : Step) → Walks (reverse word) s → Located word
+          (elim s [ At p ↦ gotByWord (wordAt (b .head .records) t p) | Nothing ↦ Absent | Damaged ↦ Got.Damaged ])
       go s (arrives {m} h e) = by-number m h e (wordAt (b .head .records) t (place m)) refl (tables .words .agrees m h)
       go s (stops n) = nowhere (sym (ap (frequencyIn ledger) (reverse-reverse word)) ∙ not-in-ledger (tables .words) (reverse word) n)
 
   -- so it is held as the ledger has it
-  pub record-agrees : (word : List ℕ) (m n : ℕ) → m < next → name m ≡ reverse word → wordAt (b .head .records) t (place m) ≡ Record n → Agrees b ledger word (Record n)
+  pub record-agrees : (word : List ℕ) (m n : ℕ) → m < next → name m ≡ reverse word → wordAt (b .head .records) t (place m) ≡ Record n
+      → Agrees b ledger word (Record n)
   record-agrees word m n h e en =
       subst (Agrees b ledger word) en
       (subst (λ (v : List ℕ). Agrees b ledger v (wordAt (b .head .records) t (place m))) (ap reverse e ∙ reverse-reverse word) (tables .words .agrees m h))
@@ -138,7 +141,8 @@ module _ {b : Book} {ledger : List Entry} {t : CharTrie} {next slots : ℕ} {nam
       rw (← reverse-cons c r, not-in-ledger (tables .words) (c ∷ r) longer) (no-words cs (c ∷ r) (at + 1) longer)
 
 -- in the book itself
-module _ {b : Book} {ledger : List Entry} {next slots : ℕ} {name : ℕ → List ℕ} {place : ℕ → ParentRef} (tables : Tables b ledger (b .trie) next slots name place) where
+module _ {b : Book} {ledger : List Entry} {next slots : ℕ} {name : ℕ → List ℕ} {place : ℕ → ParentRef}
+    (tables : Tables b ledger (b .trie) next slots name place) where
   met-by : (at : ℕ) (word : List ℕ) (number : WordNumber) → Agrees b ledger word number → (edges : List Edge)
       → metBefore b number at (met edges) ≡ met (edgeBefore at (frequencyIn ledger word) edges)
   met-by at word number (not-entered e) edges = rw e
@@ -150,8 +154,13 @@ module _ {b : Book} {ledger : List Entry} {next slots : ℕ} {name : ℕ → Lis
   walked (c ∷ cs) n at h w =
       rw (tested tables n c h (w .0), walkOn, ← reverse-cons c (name n)) (go (openStep (b .trie) (place n) c) refl (λ m hm. walked cs m (at + 1) hm (w .1)))
     where
-      go : (s : Step) → openStep (b .trie) (place n) c ≡ s → ((m : ℕ) → m < next → walkOn b (place m) (at + 1) cs ≡ met (wordsAfter ledger (reverse (name m)) (at + 1) cs))
-          → _≡_ {A = Walked} (elim s [ At q ↦ metBefore b (wordAt (b .head .records) (b .trie) q) (at + 1) (walkOn b q (at + 1) cs) | Nothing ↦ ended | Damaged ↦ broken ])
+      go : (s : Step) → openStep (b .trie) (place n) c ≡ s
+          → ((m : ℕ) → m < next → walkOn b (place m) (at + 1) cs ≡ met (wordsAfter ledger (reverse (name m)) (at + 1) cs))
+          → _≡_ {A = Walked} (elim s [
+            | At q ↦ metBefore b (wordAt (b .head .records) (b .trie) q) (at + 1) (walkOn b q (at + 1) cs)
+            | Nothing ↦ ended
+            | Damaged ↦ broken
+          ])
           (met (edgeBefore (at + 1) (frequencyIn ledger (reverse (c ∷ name n))) (wordsAfter ledger (reverse (c ∷ name n)) (at + 1) cs)))
       go (At q) e rest =
           let led = tables .tree .led n c q h (w .0) e in
@@ -169,4 +178,5 @@ module _ {b : Book} {ledger : List Entry} {next slots : ℕ} {name : ℕ → Lis
   unfolding wordsFrom ledgerWords
   walked-from-root at cs w =
       subst (λ (p : ParentRef). walkOn b p at cs ≡ met (wordsAfter ledger [] at cs)) (tables .tree .root-place)
-      (subst (λ (r : List ℕ). walkOn b (place 0) at cs ≡ met (wordsAfter ledger (reverse r) at cs)) (tables .tree .root-name) (walked cs 0 at (root-known tables) w))
+      (subst (λ (r : List ℕ). walkOn b (place 0) at cs ≡ met (wordsAfter ledger (reverse r) at cs)) (tables .tree .root-name)
+      (walked cs 0 at (root-known tables) w))

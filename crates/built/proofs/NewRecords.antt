@@ -56,7 +56,8 @@ module _ (t t′ : CharTrie) (roots : t′ .rootChildren ≡ t .rootChildren) (k
   only-numbers : Alike t t′
   only-numbers = record {
     node-same = same-node;
-    step-same = λ p c. same-parts t t′ p c (same-from-root p c) (ap (λ (l : List ℕ). eqb (getD l c 0) 0) roots) (same-node p) (λ key. ap (λ (l : List ℕ). probeOf l key) keys);
+    step-same = λ p c. same-parts t t′ p c (same-from-root p c) (ap (λ (l : List ℕ). eqb (getD l c 0) 0) roots) (same-node p)
+        (λ key. ap (λ (l : List ℕ). probeOf l key) keys);
     bits-kept = same-bits;
   }
 
@@ -176,7 +177,8 @@ module _ {b : Book} {ledger : List Entry} (records : Records b ledger) (word : L
   unfolding inserted
   inserted-written = record {
     here =
-        number-here (l .trie) (pos n) (n + 1) (s .place (s .node)) not-root (s .tables .sizes) (place-in-use (s .tables .tree) (s .tables .sizes) (s .node) (s .known))
+        number-here (l .trie) (pos n) (n + 1) (s .place (s .node)) not-root (s .tables .sizes)
+        (place-in-use (s .tables .tree) (s .tables .sizes) (s .node) (s .known))
         ∙ next-is-record n;
     used = omega arith;
     more = omega arith;
@@ -184,7 +186,8 @@ module _ {b : Book} {ledger : List Entry} (records : Records b ledger) (word : L
     its-logarithm = getD-set-same (b .logarithms) n (logFloat frequency) nan (rw (records .logarithms) room);
     frequency-kept = λ i ne. getD-set-other (b .frequencies) n i frequency 0 ne;
     logarithm-kept = λ i ne. getD-set-other (b .logarithms) n i (logFloat frequency) nan ne;
-    number-kept = λ k h ne good. number-elsewhere (l .trie) (pos n) (n + 1) (s .place (s .node)) (s .place k) (elsewhere k h ne) ∙ more-records-at n (l .trie) (s .place k) good;
+    number-kept = λ k h ne good. number-elsewhere (l .trie) (pos n) (n + 1) (s .place (s .node)) (s .place k) (elsewhere k h ne)
+        ∙ more-records-at n (l .trie) (s .place k) good;
     apart = λ k h ne e. next-unused _ k (s .tables .words .agrees k h) e;
   }
     where

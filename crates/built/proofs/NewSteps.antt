@@ -22,8 +22,10 @@ use Rattle.trie.specs.Trie.{CharTrie, noWord, wordNumber, keyOf, probeOf, nodeA
 use Rattle.book.specs.Returns.{Book}
 use Rattle.built.specs.Ledger.{Entry}
 use Rattle.built.specs.Built.{Sizes, Store, Tables, updateAt}
-use Rattle.built.proofs.Keys.{empty-less, found-low, found-inside, found-used, empty-zero, free-inside, probe-kept, probe-new, probe-before, findable-kept}
-use Rattle.built.proofs.Steps.{key-some, Leads, by-root, by-slot, leads-of, step-of, from-root-inside, from-root-is-root, InUse, started, next-small, node-of-place, place-in-use}
+use Rattle.built.proofs.Keys.{empty-less, found-low, found-inside, found-used, empty-zero, free-inside, probe-kept, probe-new, probe-before}
+use Rattle.built.proofs.Keys.{findable-kept}
+use Rattle.built.proofs.Steps.{key-some, Leads, by-root, by-slot, leads-of, step-of, from-root-inside, from-root-is-root, InUse, started, next-small}
+use Rattle.built.proofs.Steps.{node-of-place, place-in-use}
 use Rattle.built.proofs.Growth.{Grown, grown-tree, grown-words}
 
 -- no slot has a parent that is still to come
@@ -37,8 +39,10 @@ no-child-yet {t = t} {next = next} sizes store d i f =
 
 -- ---- a step of the tree, to be made from a known node
 
-module _ {b : Book} {ledger : List Entry} {t : CharTrie} {next slots : ℕ} {name : ℕ → List ℕ} {place : ℕ → ParentRef} (tables : Tables b ledger t next slots name place)
-    (parent c : ℕ) (known : parent < next) (within : c < 2 ^ 21) (absent : openStep t (place parent) c ≡ Nothing) (bits : bitsAt t (place parent) c ≡ true) where
+module _ {b : Book} {ledger : List Entry} {t : CharTrie} {next slots : ℕ} {name : ℕ → List ℕ} {place : ℕ → ParentRef}
+    (tables : Tables b ledger t next slots name place)
+    (parent c : ℕ) (known : parent < next) (within : c < 2 ^ 21) (absent : openStep t (place parent) c ≡ Nothing)
+    (bits : bitsAt t (place parent) c ≡ true) where
   filled : (n : ℕ) → n < next → InUse t (place n)
   filled n h = place-in-use (tables .tree) (tables .sizes) n h
 
@@ -268,7 +272,8 @@ module _ {b : Book} {ledger : List Entry} {t : CharTrie} {next slots : ℕ} {nam
     entry-from-root (Slot i) d = refl
 
     entry-kept : (p : ParentRef) (d : ℕ) (q : ParentRef) → InUse t p → Leads t p d q → Leads with-entry p d q
-    entry-kept p d q used (by-root e nz) = let same = getD-set-other (t .rootChildren) c d next 0 (another-entry d nz) in by-root (entry-from-root p d ∙ e) (rw same nz)
+    entry-kept p d q used (by-root e nz) = let same = getD-set-other (t .rootChildren) c d next 0 (another-entry d nz) in
+        by-root (entry-from-root p d ∙ e) (rw same nz)
     entry-kept p d q used (by-slot {i} e f) = by-slot {i = i} (entry-from-root p d ∙ e) (rw (entry-node p used) f)
 
     entry-new : Leads with-entry (place parent) c (RootEntry c)

@@ -148,19 +148,23 @@ module _ (keys : List ℕ) (key : ℕ) where
   first-empty zero i j p = unprobed-empty keys key i j p
   first-empty (suc n) i j p = go _ (view keys key n i) (first-empty n (nextSlot (length keys) i) j) p
     where
-      go : (r : Probe) → View keys key n i r → (probeFrom n keys key (nextSlot (length keys) i) ≡ Empty j → emptyFrom n keys (nextSlot (length keys) i) ≡ Empty j)
+      go : (r : Probe) → View keys key n i r → (probeFrom n keys key (nextSlot (length keys) i) ≡ Empty j
+          → emptyFrom n keys (nextSlot (length keys) i) ≡ Empty j)
           → r ≡ Empty j → emptyFrom (suc n) keys i ≡ Empty j
       go r (its-key e) rest q = let z : _≡_ {A = ℕ} 0 1 = cc in absurd (omega arith)
       go r (its-empty ne z) rest q = stop-at keys n i z ∙ q
       go r (passed ne nz) rest q = go-past keys n i nz ∙ rest q
 
   -- an endless probe met no empty slot
-  endless-met : (n i : ℕ) → i < length keys → probeFrom n keys key i ≡ Endless → (e d : ℕ) → e < length keys → d < n → Ahead (length keys) i e d → getD keys e 0 ≢ 0
+  endless-met : (n i : ℕ) → i < length keys → probeFrom n keys key i ≡ Endless → (e d : ℕ) → e < length keys → d < n → Ahead (length keys) i e d
+      → getD keys e 0 ≢ 0
   endless-met zero i h p e d k l a = absurd (omega arith)
-  endless-met (suc n) i h p e d k l a = go _ (view keys key n i) (λ q d l a. endless-met n (nextSlot (length keys) i) (next-inside (length keys) i h) q e d k l a) p d l a
+  endless-met (suc n) i h p e d k l a = go _ (view keys key n i)
+      (λ q d l a. endless-met n (nextSlot (length keys) i) (next-inside (length keys) i h) q e d k l a) p d l a
     where
       go : (r : Probe) → View keys key n i r
-          → (probeFrom n keys key (nextSlot (length keys) i) ≡ Endless → (d : ℕ) → d < n → Ahead (length keys) (nextSlot (length keys) i) e d → getD keys e 0 ≢ 0)
+          → (probeFrom n keys key (nextSlot (length keys) i) ≡ Endless → (d : ℕ) → d < n → Ahead (length keys) (nextSlot (length keys) i) e d
+          → getD keys e 0 ≢ 0)
           → r ≡ Endless → (d : ℕ) → d < suc n → Ahead (length keys) i e d → getD keys e 0 ≢ 0
       go r (its-key _) rest q d l a = let z : _≡_ {A = ℕ} 0 1 = cc in absurd (omega arith)
       go r (its-empty _ _) rest q d l a = let z : _≡_ {A = ℕ} 0 1 = cc in absurd (omega arith)
@@ -198,7 +202,8 @@ module _ (keys : List ℕ) (j stored : ℕ) (free : getD keys j 0 ≡ 0) where
       go r (passed ne nz) rest q = pass-still key n i ne nz ∙ rest q
 
   -- a probe that ended at the empty slot finds what is stored there
-  pub stored-found : (key : ℕ) → stored % 2 ^ 48 ≡ key → j < length keys → (n i : ℕ) → probeFrom n keys key i ≡ Empty j → probeFrom n (set keys j stored) key i ≡ Found j
+  pub stored-found : (key : ℕ) → stored % 2 ^ 48 ≡ key → j < length keys → (n i : ℕ) → probeFrom n keys key i ≡ Empty j
+      → probeFrom n (set keys j stored) key i ≡ Found j
   stored-found key low l zero i p = unprobed-empty keys key i j p
   stored-found key low l (suc n) i p = go _ (view keys key n i) (stored-found key low l n (nextSlot (length keys) i)) p
     where
@@ -237,4 +242,5 @@ module _ (keys : List ℕ) (j stored : ℕ) (low : stored % 2 ^ 48 ≡ getD keys
   probe-same key zero i = refl
   probe-same key (suc n) i =
       let s = seen i in
-      by-tests (set keys j stored) key n i ∙ (rw (s .0, s .1, length-set keys j stored, probe-same key n (nextSlot (length keys) i))) ∙ sym (by-tests keys key n i)
+      by-tests (set keys j stored) key n i ∙ (rw (s .0, s .1, length-set keys j stored, probe-same key n (nextSlot (length keys) i)))
+      ∙ sym (by-tests keys key n i)

@@ -50,7 +50,8 @@ pub record WordWritten (b b′ : Book) (t t′ : CharTrie) (next : ℕ) (place :
   pub its-logarithm : getD (b′ .logarithms) n nan ≡ logFloat frequency
   pub frequency-kept : (i : ℕ) → i ≢ n → getD (b′ .frequencies) i 0 ≡ getD (b .frequencies) i 0
   pub logarithm-kept : (i : ℕ) → i ≢ n → getD (b′ .logarithms) i nan ≡ getD (b .logarithms) i nan
-  pub number-kept : (k : ℕ) → k < next → k ≢ m → wordAt (b .head .records) t (place k) ≢ Bad → wordAt (b′ .head .records) t′ (place k) ≡ wordAt (b .head .records) t (place k)
+  pub number-kept : (k : ℕ) → k < next → k ≢ m → wordAt (b .head .records) t (place k) ≢ Bad
+      → wordAt (b′ .head .records) t′ (place k) ≡ wordAt (b .head .records) t (place k)
   pub apart : (k : ℕ) → k < next → k ≢ m → wordAt (b .head .records) t (place k) ≢ Record n
 
 module _ {b b′ : Book} {ledger : List Entry} {t t′ : CharTrie} {next : ℕ} {name : ℕ → List ℕ} {place : ℕ → ParentRef}
@@ -85,7 +86,8 @@ module _ {b b′ : Book} {ledger : List Entry} {t t′ : CharTrie} {next : ℕ} 
       (w .logarithm-kept i differ ∙ g ∙ ap logFloat (sym same-frequency))
 
   new-agrees : Agrees b′ (enterIn ledger word frequency) word (Record n)
-  new-agrees = in-record (w .used) (entered-has ledger word frequency ∙ ap some (sym (w .its-frequency))) (w .its-logarithm ∙ ap logFloat (sym (w .its-frequency)))
+  new-agrees = in-record (w .used) (entered-has ledger word frequency ∙ ap some (sym (w .its-frequency)))
+      (w .its-logarithm ∙ ap logFloat (sym (w .its-frequency)))
 
   pub words-entered : Words b′ (enterIn ledger word frequency) t′ next name place
   words-entered = record {
@@ -122,7 +124,8 @@ module _ {b b′ : Book} {ledger : List Entry} {t t′ : CharTrie} {next : ℕ} 
 
 -- ---- a held word's record gets the new frequency
 
-module _ {b : Book} {ledger : List Entry} (built : Built b ledger) (word : List ℕ) (m n frequency total : ℕ) (known : m < b .head .next) (named : built .name m ≡ reverse word)
+module _ {b : Book} {ledger : List Entry} (built : Built b ledger) (word : List ℕ) (m n frequency total : ℕ) (known : m < b .head .next)
+    (named : built .name m ≡ reverse word)
     (its-record : wordAt (b .head .records) (b .trie) (built .place m) ≡ Record n) (agrees : Agrees b ledger word (Record n))
     (total-is : total ≡ b .head .total - getD (b .frequencies) n 0 + frequency) (total-most : total ≤ greatestTotal) where
   abbrev place : ℕ → ParentRef

@@ -52,7 +52,8 @@ module _ (t : CharTrie) (p : ParentRef) (c : ℕ) where
   pub step-tests : openStep t p c
       ≡ cond (fromRoot t p c) (cond (eqb (getD (t .rootChildren) c 0) 0) Nothing (At (RootEntry c))) (stepByProbe (probeOf (t .keys) (keyOf (nodeAt t p) c)))
   unfolding openStep
-  step-tests = go (fromRoot t p c) (cond (eqb (getD (t .rootChildren) c 0) 0) Nothing (At (RootEntry c))) (stepByProbe (probeOf (t .keys) (keyOf (nodeAt t p) c)))
+  step-tests = go (fromRoot t p c) (cond (eqb (getD (t .rootChildren) c 0) 0) Nothing (At (RootEntry c)))
+      (stepByProbe (probeOf (t .keys) (keyOf (nodeAt t p) c)))
     where
       go : (r : Bool) (x y : Step) → elim r [ true ↦ x | false ↦ y ] ≡ cond r x y
       go true x y = refl
@@ -183,10 +184,12 @@ module _ {t : CharTrie} {next : ℕ} {name : ℕ → List ℕ} {place : ℕ → 
     where
       go : (n ≡ 0) ⊎ (0 < n) → n ≡ 0
       go (inl z) = z
-      go (inr s) = let o = tree .child n s h in let both-ways : [] ≡ o .character ∷ name (o .parent) = sym e ∙ o .named in let z : _≡_ {A = ℕ} 0 1 = cc in absurd (omega arith)
+      go (inr s) = let o = tree .child n s h in let both-ways : [] ≡ o .character ∷ name (o .parent) = sym e ∙ o .named in let z : _≡_ {A = ℕ} 0 1 =
+          cc in absurd (omega arith)
 
   -- a node with a name is the child of the node whose name is the rest
-  pub child-named : (n c : ℕ) (rest : List ℕ) → n < next → name n ≡ c ∷ rest → (parent : ℕ) × (parent < next) × (name parent ≡ rest) × (openStep t (place parent) c ≡ At (place n))
+  pub child-named : (n c : ℕ) (rest : List ℕ) → n < next → name n ≡ c ∷ rest
+      → (parent : ℕ) × (parent < next) × (name parent ≡ rest) × (openStep t (place parent) c ≡ At (place n))
   child-named n c rest h e = go (zero-or-more n)
     where
       go : (n ≡ 0) ⊎ (0 < n) → (parent : ℕ) × (parent < next) × (name parent ≡ rest) × (openStep t (place parent) c ≡ At (place n))

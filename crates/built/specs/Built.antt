@@ -24,7 +24,7 @@ use Rattle.trie.specs.declared.WordNumber.the-variants.{NoWord, Record}
 use Rattle.trie.specs.SlotCounts.{slotCount}
 use Rattle.trie.specs.Trie.{CharTrie, probeOf, nodeAt, openStep, bitsAt, wordAt}
 use Rattle.score.specs.Logarithm.{logFloat}
-use Rattle.book.specs.Returns.{Book, greatestTotal}
+use Rattle.book.specs.Returns.{Book, mostRecords, greatestTotal}
 use Rattle.book.specs.Enter.{emptySlots}
 use Rattle.built.specs.Ledger.{Entry, frequencyIn, sumOf, EachOnce}
 
@@ -65,7 +65,8 @@ pub record Tree (t : CharTrie) (next : ℕ) (name : ℕ → List ℕ) (place : �
   pub root-name : name 0 ≡ []
   pub root-place : place 0 ≡ Root
   pub child : (n : ℕ) → 0 < n → n < next → Child t next name place n
-  pub led : (parent character : ℕ) (p : ParentRef) → parent < next → character < 2 ^ 21 → openStep t (place parent) character ≡ At p → LedTo t next name place parent character p
+  pub led : (parent character : ℕ) (p : ParentRef) → parent < next → character < 2 ^ 21 → openStep t (place parent) character ≡ At p
+      → LedTo t next name place parent character p
 
 -- ---- the store
 
@@ -107,7 +108,7 @@ pub record Words (b : Book) (ledger : List Entry) (t : CharTrie) (next : ℕ) (n
 -- "in a book built by calls the total is the sum over held words"
 pub record Records (b : Book) (ledger : List Entry) : Type 0 where
   pub records-least : 1 ≤ length (b .frequencies)
-  pub records-most : length (b .frequencies) ≤ 1048576
+  pub records-most : length (b .frequencies) ≤ mostRecords
   pub logarithms : length (b .logarithms) ≡ length (b .frequencies)
   pub used : b .head .records ≤ length (b .frequencies)
   pub total : b .head .total ≡ sumOf ledger

@@ -72,4 +72,5 @@ ledgerFrom roots slots records calls = ledgerAfterAll [] calls (answersFrom root
 
 -- a book and the ledger beside it, as a list of calls leaves the two
 pub data BuiltByCalls : Book → List Entry → Type 0 where
-  after : (roots slots records : ℕ) (calls : List Call) → allowedSizes roots slots records → BuiltByCalls (bookFrom roots slots records calls) (ledgerFrom roots slots records calls)
+  after : (roots slots records : ℕ) (calls : List Call) → allowedSizes roots slots records
+      → BuiltByCalls (bookFrom roots slots records calls) (ledgerFrom roots slots records calls)

@@ -21,7 +21,7 @@ use Rattle.trie.specs.declared.Step.the-variants.{At}
 use Rattle.trie.specs.Trie.{probeOf, openStep, testedStep, walk, getOf}
 use Rattle.score.specs.Logarithm.{logFloat}
 use Rattle.book.specs.declared.Outcome.the-variants.{Damaged}
-use Rattle.book.specs.Returns.{Book, sized, greatestTotal, lastNode, damagedHead, emptyBook, emptied, prepareOf, lookupOf}
+use Rattle.book.specs.Returns.{Book, sized, greatestTotal, greatestNext, damagedHead, emptyBook, emptied, prepareOf, lookupOf}
 use Rattle.book.specs.Prefixes.{wordsFrom}
 use Rattle.built.specs.Ledger.{Entry, frequencyIn, sumOf, EachOnce, ledgerLookup, ledgerWords}
 use Rattle.built.specs.Calls.{Call, Answer, answersFrom, allowedSizes, BuiltByCalls}
@@ -36,7 +36,8 @@ BuiltHasInvariant = (b : Book) (ledger : List Entry) → BuiltByCalls b ledger �
 -- what `prepare` leaves of areas of allowed sizes is the empty book, and that is such a book, before any call
 abbrev pub PreparedIsBuilt : Type 0
 PreparedIsBuilt = (b : Book) → sized b ≡ true
-    → (prepareOf (b .trie) (b .frequencies) (b .logarithms) ≡ emptied (emptyBook (length (b .trie .rootChildren)) (length (b .trie .keys)) (length (b .frequencies))))
+    → (prepareOf (b .trie) (b .frequencies) (b .logarithms)
+    ≡ emptied (emptyBook (length (b .trie .rootChildren)) (length (b .trie .keys)) (length (b .frequencies))))
     × BuiltByCalls (emptyBook (length (b .trie .rootChildren)) (length (b .trie .keys)) (length (b .frequencies))) []
 
 -- ---- the words
@@ -79,7 +80,7 @@ pub record Undamaged (b : Book) : Type 0 where
   pub sizes : sized b ≡ true
   pub head : damagedHead b ≡ false
   pub next-least : 1 ≤ b .head .next
-  pub next-most : b .head .next ≤ lastNode
+  pub next-most : b .head .next ≤ greatestNext
   pub probes-end : (key : ℕ) → probeOf (b .trie .keys) key ≢ Endless
 
 abbrev pub NoDamage : Type 0

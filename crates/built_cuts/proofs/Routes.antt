@@ -13,11 +13,11 @@ use lib.ListN.{length, getD, take, drop}
 use Rattle.book.specs.Returns.{longestText}
 use Rattle.built.specs.Ledger.{Entry, sameWord, frequencyIn, sumOf}
 use Rattle.built.proofs.Claims.{total-is-sum}
-use Rattle.route.specs.Paths.{Word, Forward, Block}
-use Rattle.route.specs.Claims.{Rising}
-use Rattle.route.proofs.Exact.{route-exact}
-use Rattle.route.proofs.Paths.{route-best}
-use Rattle.route.proofs.TotalZero.{shortest-at-total-zero}
+use Rattle.best_route.specs.Paths.{Word, Forward, Block}
+use Rattle.best_route.specs.Claims.{Rising}
+use Rattle.best_route.proofs.Exact.{route-exact}
+use Rattle.best_route.proofs.Paths.{route-best}
+use Rattle.best_route.proofs.TotalZero.{shortest-at-total-zero}
 use Rattle.built_cuts.specs.Claims.{HeldAt, HeldRows, BestRoute, BestInBuiltBooks, ShortestAt, ShortestInBuiltBooks}
 use Rattle.built_cuts.proofs.Rows.{block-words}
 

@@ -19,8 +19,8 @@ use Rattle.book.specs.Prefixes.{Edge, wordsFrom}
 use Rattle.built.specs.Ledger.{Entry, frequencyIn, edgeBefore, wordsAfter, ledgerWords}
 use Rattle.built.specs.Calls.{BuiltByCalls}
 use Rattle.built.proofs.Claims.{walk-as-ledger}
-use Rattle.route.specs.Paths.{Word, edgeOf, edgesOf}
-use Rattle.route.specs.Claims.{Rising}
+use Rattle.best_route.specs.Paths.{Word, edgeOf, edgesOf}
+use Rattle.best_route.specs.Claims.{Rising}
 use Rattle.cuts.specs.Edges.{walksOf, Edges, edges, stopped, before, edgesWithin}
 use Rattle.cuts.specs.Cuts.{CutAnswer, cutEdges, cutBlock, searchEdges, searchBlock}
 use Rattle.built_cuts.specs.Claims.{HeldRows, wordCount, met, WalksMeet, GoesByRows, BlockWords}
@@ -160,7 +160,8 @@ module _ (ledger : List Entry) where
         };
     none-missing = λ position w its.
         subst (List·Memᴰ w) (sym (row-of cs position))
-        (none-lost (drop position cs) [] position (its .size) w (its .one-or-more) (omega (arith, its .inside, length-drop position cs)) (its .ends) (its .entered));
+        (none-lost (drop position cs) [] position (its .size) w (its .one-or-more) (omega (arith, its .inside, length-drop position cs)) (its .ends)
+        (its .entered));
     rising = λ position. subst Rising (sym (row-of cs position)) (rising-after (drop position cs) [] position);
   }
 
@@ -199,7 +200,8 @@ edges-within (row ∷ rows) room = by (edgesWithin (room - length es) (map met (
 
     by : (rest : Edges) → rest ≡ orFull (leb (wordCount rows) (room - length es)) (edgesOf rows)
         → (full : Bool) → ltb room (length es) ≡ full
-        → _≡_ {A = Edges} (elim full [ true ↦ stopped EdgesFull | false ↦ before es rest ]) (orFull (leb (length row + wordCount rows) room) (es ∷ edgesOf rows))
+        → _≡_ {A = Edges} (elim full [ true ↦ stopped EdgesFull | false ↦ before es rest ])
+        (orFull (leb (length row + wordCount rows) room) (es ∷ edgesOf rows))
     by rest r true e = rw (lt-leb (length row + wordCount rows) room (omega (arith, ltb-true room (length es) e, length-map row edgeOf)))
     by rest r false e =
         ap (before es) r ∙ before-rows es (edgesOf rows) (leb (wordCount rows) (room - length es))
@@ -209,7 +211,8 @@ edges-within (row ∷ rows) room = by (edgesWithin (room - length es) (map met (
 -- ---- the words of a block
 
 -- a cut that goes by edges, which are all there or more than the room
-by-room : (fits : Bool) (rows : List (List Edge)) (f : Edges → CutAnswer) → f (cond fits (edges rows) (stopped EdgesFull)) ≡ cond fits (f (edges rows)) (f (stopped EdgesFull))
+by-room : (fits : Bool) (rows : List (List Edge)) (f : Edges → CutAnswer)
+    → f (cond fits (edges rows) (stopped EdgesFull)) ≡ cond fits (f (edges rows)) (f (stopped EdgesFull))
 by-room true rows f = refl
 by-room false rows f = refl
 

@@ -49,7 +49,8 @@ module _ (b : Book) where
   -- ---- a walk's words end behind its first position
 
   -- the word of the first step ends behind it, as those of the later steps
-  later-by : (number : WordNumber) (next end : ℕ) (w : Walked) → end < next → someEnds end (w .edges) ≡ false → someEnds end (metBefore b number next w .edges) ≡ false
+  later-by : (number : WordNumber) (next end : ℕ) (w : Walked) → end < next → someEnds end (w .edges) ≡ false
+      → someEnds end (metBefore b number next w .edges) ≡ false
   later-by NoWord next end w h rest = rest
   later-by (Record n) next end w h rest = rw (ne-eqb next end (λ e. omega arith), rest)
   later-by Bad next end w h rest = refl
@@ -93,12 +94,14 @@ module _ (b : Book) where
           → Agree (someEnds end (walkOn b q (at + 1) cs .edges)) (gotAt (walk (b .trie) q (take (suc m) cs))))
           → (s : Step)
           → walkFrom (at + 1) cs s .damaged ≡ false
-          → Agree (someEnds end (walkFrom (at + 1) cs s .edges)) (gotAt (elim s [ At q ↦ walk (b .trie) q (take n cs) | Nothing ↦ Nothing | Damaged ↦ Damaged ]))
+          → Agree (someEnds end (walkFrom (at + 1) cs s .edges))
+          (gotAt (elim s [ At q ↦ walk (b .trie) q (take n cs) | Nothing ↦ Nothing | Damaged ↦ Damaged ]))
       by zero e h rest (At q) sound =
           let next : end ≡ at + 1 = omega arith in
           rw next (last-step (wordAt (b .head .records) (b .trie) q) (at + 1) (walkOn b q (at + 1) cs) sound (ends-later cs q (at + 1) (at + 1) (omega arith)))
       by (suc m) e h rest (At q) sound =
-          earlier-step (wordAt (b .head .records) (b .trie) q) (at + 1) end (walkOn b q (at + 1) cs) _ (omega arith) sound (rest q m (omega arith) (omega arith))
+          earlier-step (wordAt (b .head .records) (b .trie) q) (at + 1) end (walkOn b q (at + 1) cs) _ (omega arith) sound
+          (rest q m (omega arith) (omega arith))
       by n e h rest Nothing sound = neither
       by n e h rest Damaged sound = absurd (true≢false sound)
 
@@ -141,7 +144,10 @@ unfolding edgesWithin
 first-row room w ws rows e = by (ltb room (length (w .edges))) (w .damaged) refl (edgesWithin (room - length (w .edges)) ws) e
   where
     by : (full damaged : Bool) → w .damaged ≡ damaged → (rest : Edges)
-        → _≡_ {A = Edges} (elim full [ true ↦ stopped EdgesFull | false ↦ elim damaged [ true ↦ stopped DamagedBook | false ↦ before (w .edges) rest ] ]) (edges rows)
+        → _≡_ {A = Edges} (elim full [
+          | true ↦ stopped EdgesFull
+          | false ↦ elim damaged [ true ↦ stopped DamagedBook | false ↦ before (w .edges) rest ]
+        ]) (edges rows)
         → FirstRow w rest rows
     by true damaged d rest q = let z : _≡_ {A = ℕ} 0 1 = cc in absurd (omega arith)
     by false true d rest q = let z : _≡_ {A = ℕ} 0 1 = cc in absurd (omega arith)

@@ -26,9 +26,9 @@ use Rattle.built.specs.Ledger.{Entry, frequencyIn}
 use Rattle.built.specs.Calls.{BuiltByCalls}
 use Rattle.route.specs.Route.{routeOf}
 use Rattle.route.specs.Slices.{nowhere}
-use Rattle.route.specs.Paths.{Word, edgesOf, unreached, asFloat, scoreRoute}
-use Rattle.route.specs.Paths as Paths
-use Rattle.route.specs.Claims.{BestFrom, Rising}
+use Rattle.best_route.specs.Paths.{Word, edgesOf, unreached, asFloat, scoreRoute}
+use Rattle.best_route.specs.Paths as Paths
+use Rattle.best_route.specs.Claims.{BestFrom, Rising}
 use Rattle.cuts.specs.Blocks as Blocks
 use Rattle.cuts.specs.Blocks.{blocksOf}
 use Rattle.cuts.specs.Edges.{vocabularyOf, walksOf, edges, stopped, edgesWithin}
@@ -75,7 +75,8 @@ pub record GoesByRows (b : Book) (cs : List ℕ) (rows : List (List Word)) : Typ
       ≡ cond (leb (wordCount rows) room) (putSpans base cs w (cutRoute cs (routeOf (logFloat (b .head .total)) 0 (edgesOf rows)))) (answer EdgesFull w)
   pub cut-for-search : (room : ℕ) (base : Base) (w : Written)
       → searchBlock (vocabularyOf b) room base (blockOf true cs) w
-      ≡ cond (leb (wordCount rows) room) (putSpans base cs w (searched cs (edgesOf rows) (cutRoute cs (routeOf (logFloat (b .head .total)) 0 (edgesOf rows))))) (answer EdgesFull w)
+      ≡ cond (leb (wordCount rows) room) (putSpans base cs w
+      (searched cs (edgesOf rows) (cutRoute cs (routeOf (logFloat (b .head .total)) 0 (edgesOf rows))))) (answer EdgesFull w)
 
 -- the words that a cut of the block goes by
 pub record BlockWords (b : Book) (ledger : List Entry) (cs : List ℕ) : Type 0 where

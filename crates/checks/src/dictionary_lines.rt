@@ -1,4 +1,4 @@
-// Frequencies, and lines of a dictionary text: where the word stands, in bytes, and its frequency.
+//! Frequencies, and lines of a dictionary text: where the word stands, in bytes, and its frequency.
 use crate::output::print_bytes;
 use cases::output::print;
 use cases::output::print_decimal;

@@ -1,5 +1,5 @@
-// RFC 3629's table of well-formed byte sequences, found by reading: which second bytes go with which lead bytes, over all pairs, and
-// which third and fourth bytes are read.
+//! RFC 3629's table of well-formed byte sequences, found by reading: which second bytes go with which lead bytes, over all pairs, and
+//! which third and fourth bytes are read.
 use crate::output::print_number_of;
 use crate::output::print_range;
 use crate::sweep::ENDED;

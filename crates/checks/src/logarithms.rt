@@ -1,4 +1,4 @@
-// Document 01's logarithm L, as the double that a record holds.
+//! Document 01's logarithm L, as the double that a record holds.
 use cases::output::print;
 use cases::output::print_decimal;
 

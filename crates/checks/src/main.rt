@@ -1,7 +1,7 @@
 //! Runs what RFC 3629 and document 01 fix and no starred theorem states, and prints what the calls answer, a group of lines under
 //! each heading.
 //!
-//! The gate compares the lines with `stdout`, which does not come from this program: tests/expected_checks.py computes it from
+//! The gate compares the lines with `stdout`, which does not come from this program: models/checks.py computes it from
 //! Python's UTF-8 codec, document 01's ranges and document 01's definition of L. Proved here is only that the program is safe and ends.
 mod class_ranges;
 mod dictionary_lines;

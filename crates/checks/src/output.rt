@@ -1,4 +1,4 @@
-// What the groups print with beside text and numbers: ranges of numbers, bytes, and what stands at a position of a text.
+//! What the groups print with beside text and numbers: ranges of numbers, bytes, and what stands at a position of a text.
 use cases::output::print;
 use cases::output::print_decimal;
 use utf8::Character;

@@ -1,4 +1,4 @@
-// A sweep asks one question of each number from 0 up, and prints the ranges of numbers that it answers alike.
+//! A sweep asks one question of each number from 0 up, and prints the ranges of numbers that it answers alike.
 use crate::output::print_number_of;
 use crate::output::print_range;
 use cases::output::print;

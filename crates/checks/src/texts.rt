@@ -1,4 +1,4 @@
-// Characters and whole texts, written out byte by byte: RFC 3629's boundaries, texts that are cut short, and counts.
+//! Characters and whole texts, written out byte by byte: RFC 3629's boundaries, texts that are cut short, and counts.
 use crate::output::print_bytes;
 use crate::output::print_character;
 use crate::output::print_number_of;

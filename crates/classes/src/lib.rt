@@ -1,5 +1,5 @@
-// The classes of characters that loads and cuts go by (lib.rs; the connectors from hmm.rs). A character is its code point, and each
-// class is decided by a match over the code points that document 01 lists. Every number is accepted, code point or not.
+//! The classes of characters that loads and cuts go by (lib.rs; the connectors from hmm.rs). A character is its code point, and each
+//! class is decided by a match over the code points that document 01 lists. Every number is accepted, code point or not.
 ghost use mathlib.Core.Path.{_≡_};
 ghost use mathlib.Core.Bool.{not};
 ghost use Rattle.classes.specs.WhiteSpace.{whiteSpace};

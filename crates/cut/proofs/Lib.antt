@@ -1,2 +1,2 @@
--- What is proved of `cut` and `cut_for_search`.
+-- What is proved of `cut`.
 pub mod Modes

@@ -1,15 +1,12 @@
-//! `cut` and `cut_for_search` (lib.rs): a sentence into words, and into words with the parts and the shorter words that a search
-//! may ask for.
-//!
-//! Both are `tokenize` with one mode, and stand over the function that it stands over. What they are lent, and what becomes of
-//! it, is said there.
+//! `cut` (lib.rs): a sentence into words. It is `tokenize` with the mode `Default`; what it is lent, and what becomes of it, is said
+//! there.
 ghost use mathlib.Core.Path.{_≡_};
 ghost use mathlib.Core.Bool.{false};
 ghost use Rattle.trie.specs.Lent.{was, became};
 ghost use Rattle.book.specs.Areas.{bookLent};
 ghost use Rattle.cuts.specs.Slices.{Unchanged};
-ghost use Rattle.cuts.specs.Cuts.{cutAnswer, testedBook, begins, cutOf, cutForSearchOf};
-ghost use Rattle.tokenize.specs.Areas.{workLent, roomLent};
+ghost use Rattle.cuts.specs.Cuts.{cutAnswer, testedBook, begins, cutOf};
+ghost use Rattle.cut_sentence.specs.Areas.{workLent, roomLent};
 use book::Head;
 use cuts::Cut;
 use cuts::TokenizeMode;
@@ -39,7 +36,8 @@ pub fn cut(
         (workLent chars offsets starts scores ends records) (roomLent «edge_ends» «edge_records») (was tokens) (was sentence) ⌝ }
     ensures { λ _. ⌜ (begins (testedBook (bookLent head «root_children» «root_words» keys children words frequencies logarithms))
         (workLent chars offsets starts scores ends records) (was tokens) (was sentence) ≡ false
-        → Unchanged chars × Unchanged offsets × Unchanged starts × Unchanged scores × Unchanged ends × Unchanged records × Unchanged «edge_ends» × Unchanged «edge_records») ⌝ }
+        → Unchanged chars × Unchanged offsets × Unchanged starts × Unchanged scores × Unchanged ends × Unchanged records × Unchanged «edge_ends»
+        × Unchanged «edge_records») ⌝ }
 {
     let shortest = sentence::shortest(
         chars.len(),
@@ -50,7 +48,7 @@ pub fn cut(
         records.len(),
     );
     let room = sentence::shorter(edge_ends.len(), edge_records.len());
-    tokenize::cut_sentence(
+    cut_sentence::cut_sentence(
         head,
         root_children,
         root_words,
@@ -61,67 +59,6 @@ pub fn cut(
         logarithms,
         sentence,
         TokenizeMode::Default,
-        shortest,
-        chars,
-        offsets,
-        starts,
-        scores,
-        ends,
-        records,
-        edge_ends,
-        edge_records,
-        room,
-        tokens,
-    )
-}
-
-// Cuts a sentence into words, before each of them what search finds in it.
-pub fn cut_for_search(
-    head: Head,
-    root_children: &[u32],
-    root_words: &[i32],
-    keys: &[u64],
-    children: &[u32],
-    words: &[i32],
-    frequencies: &[u32],
-    logarithms: &[f64],
-    sentence: &[u8],
-    chars: &mut [u32],
-    offsets: &mut [u32],
-    starts: &mut [usize],
-    scores: &mut [f64],
-    ends: &mut [u32],
-    records: &mut [u32],
-    edge_ends: &mut [u32],
-    edge_records: &mut [u32],
-    tokens: &mut [u32],
-) -> Cut
-    ensures { λ r. ⌜ cutAnswer r (became tokens) ≡ cutForSearchOf (bookLent head «root_children» «root_words» keys children words frequencies logarithms)
-        (workLent chars offsets starts scores ends records) (roomLent «edge_ends» «edge_records») (was tokens) (was sentence) ⌝ }
-    ensures { λ _. ⌜ (begins (testedBook (bookLent head «root_children» «root_words» keys children words frequencies logarithms))
-        (workLent chars offsets starts scores ends records) (was tokens) (was sentence) ≡ false
-        → Unchanged chars × Unchanged offsets × Unchanged starts × Unchanged scores × Unchanged ends × Unchanged records × Unchanged «edge_ends» × Unchanged «edge_records») ⌝ }
-{
-    let shortest = sentence::shortest(
-        chars.len(),
-        offsets.len(),
-        starts.len(),
-        scores.len(),
-        ends.len(),
-        records.len(),
-    );
-    let room = sentence::shorter(edge_ends.len(), edge_records.len());
-    tokenize::cut_sentence(
-        head,
-        root_children,
-        root_words,
-        keys,
-        children,
-        words,
-        frequencies,
-        logarithms,
-        sentence,
-        TokenizeMode::Search,
         shortest,
         chars,
         offsets,

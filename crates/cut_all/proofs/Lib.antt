@@ -1,5 +1,3 @@
--- What the proofs of `cut_all` rest on.
-pub mod Walks
-pub mod Positions
+-- What the proofs of `cut_all` rest on: one block after another, and the call by its tests.
 pub mod Blocks
 pub mod Sentences

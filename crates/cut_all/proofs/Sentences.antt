@@ -39,13 +39,16 @@ lent head rootChildren rootWords keys children words frequencies logarithms =
     bookOf head (trieOf rootChildren rootWords keys children words) frequencies logarithms
 
 -- the tests of a sentence before its cut have this outcome
-pub record Tests (head : Head) (rootChildren : List ℕ) (rootWords : List ℤ) (keys children : List ℕ) (words : List ℤ) (frequencies : List ℕ) (logarithms : List Float)
+pub record Tests (head : Head) (rootChildren : List ℕ) (rootWords : List ℤ) (keys children : List ℕ) (words : List ℤ) (frequencies : List ℕ)
+    (logarithms : List Float)
     (sentence chars offsets tokens : List ℕ) (outcome : Outcome) : Type 0 where
   pub same : answer outcome (written 0 tokens)
-      ≡ cutWith (testedBook (lent head rootChildren rootWords keys children words frequencies logarithms)) (workOf chars offsets) tokens (λ cs. answer Done) sentence
+      ≡ cutWith (testedBook (lent head rootChildren rootWords keys children words frequencies logarithms)) (workOf chars offsets) tokens
+      (λ cs. answer Done) sentence
 
 -- `begin` makes them, with a work area as long as the shorter of its slices
-pub tested : (head : Head) (rootChildren : List ℕ) (rootWords : List ℤ) (keys children : List ℕ) (words : List ℤ) (frequencies : List ℕ) (logarithms : List Float)
+pub tested : (head : Head) (rootChildren : List ℕ) (rootWords : List ℤ) (keys children : List ℕ) (words : List ℤ) (frequencies : List ℕ)
+    (logarithms : List Float)
     (sentence chars offsets tokens : List ℕ) (work : ℕ) (outcome : Outcome)
     → work ≡ shorter (length chars) (length offsets)
     → answer outcome (written 0 tokens)

@@ -1,160 +1,30 @@
 //! `cut_all` (lib.rs): every word of the dictionary that a sentence's blocks hold.
 //!
-//! As in the Rust, the walk through the trie visits the words in the order of the output, so that they are written as it meets
-//! them, and no edge is kept. The work area is two slices, which a block fills from their start: its characters, and their byte
+//! The work area is two slices, which a block fills from their start: its characters, and their byte
 //! offsets. The token area is one flat slice.
 ghost use mathlib.Core.Path.{_≡_};
 ghost use mathlib.Core.Bool.{false};
 ghost use mathlib.Core.Option.{IsSome};
-ghost use Prim.Native.Nat.{_+_, _-_, _≤_, _<_};
-ghost use lib.ListN.{length, take, drop};
+ghost use Prim.Native.Nat.{_-_, _≤_, _<_};
+ghost use lib.ListN.{length};
 ghost use Rattle.trie.specs.Trie.{SlotCount, log2};
 ghost use Rattle.trie.specs.Lent.{was, became, trieLent};
 ghost use Rattle.walk.specs.Walk.{EquallyLong};
 ghost use Rattle.utf8.specs.Text.{charsOf};
 ghost use Rattle.book.specs.Returns.{Book, longestText};
-ghost use Rattle.book.specs.Prefixes.{wordsFrom};
 ghost use Rattle.book.specs.Areas.{bookLent};
 ghost use Rattle.classes.specs.Blocks.{cutAllClass};
-ghost use Rattle.cuts.specs.Slices.{Unchanged, SeenAs, Characters, Placed};
+ghost use Rattle.cuts.specs.Slices.{Unchanged, SeenAs};
 ghost use Rattle.cuts.specs.Blocks.{blocksOf};
-ghost use Rattle.cuts.specs.Edges.{vocabularyOf, walksOf};
+ghost use Rattle.cuts.specs.Edges.{vocabularyOf};
 ghost use Rattle.cuts.specs.Tokens.{written};
-ghost use Rattle.cuts.specs.Cuts.{cutAnswer, Base, putWalks, cutAllBlock, cutBlocks, start, testedBook, begins, cutAllOf};
+ghost use Rattle.cuts.specs.Cuts.{cutAnswer, cutAllBlock, cutBlocks, start, testedBook, begins, cutAllOf};
 ghost use Rattle.splitter.specs.Runs.{textFrom};
-ghost use Rattle.cut_all.specs.Areas.{putWalk, workLent};
+ghost use Rattle.cut_all.specs.Areas.{workLent};
 use book::Head;
 use book::Outcome;
 use cuts::Cut;
 use splitter::CharacterClass;
-use trie::ParentRef;
-use trie::Step;
-use trie::WordNumber;
-
-// Writes the words that start at a position of a block of n characters, as the walk meets them.
-fn words_at(
-    root_children: &[u32],
-    root_words: &[i32],
-    keys: &[u64],
-    children: &[u32],
-    words: &[i32],
-    shift: u32,
-    used: usize,
-    chars: &[u32],
-    offsets: &[u32],
-    n: usize,
-    at: usize,
-    base: u32,
-    tokens: &mut [u32],
-    count: usize,
-) -> Cut
-    requires { ⌜ EquallyLong (now «root_children») (now «root_words») (now keys) (now children) (now words) ⌝ }
-    requires { ⌜ SlotCount (length (now keys)) × (shift ≡ 64 - log2 (length (now keys))) ⌝ }
-    requires { ⌜ (at < n) × (n ≤ length (now chars)) × (n < length (now offsets)) × Characters n (now chars) × (base + n ≤ longestText) ⌝ }
-    ensures { λ r. ⌜ ((b : Book) (place : Base) → SeenAs b (trieLent «root_children» «root_words» keys children words) used
-        → Placed place base (take n (was chars)) (was offsets)
-        → cutAnswer r (became tokens) ≡ putWalk place (take n (was chars)) at (written count (was tokens)) (wordsFrom b at (drop at (take n (was chars))))) ⌝ }
-{
-    let mut count = count;
-    let mut place = ParentRef::Root;
-    let mut next = at;
-    while next < n {
-        match walk::tested_step(root_children, keys, children, shift, place, chars[next]) {
-            Step::At(child) => {
-                place = child;
-                next += 1;
-            }
-            Step::Nothing => {
-                return Cut {
-                    outcome: Outcome::Done,
-                    count,
-                };
-            }
-            Step::Damaged => {
-                return Cut {
-                    outcome: Outcome::Damaged,
-                    count,
-                };
-            }
-        }
-        match walk::word_at(root_words, words, used, place) {
-            WordNumber::NoWord => {}
-            WordNumber::Record(_) => {
-                let put = tokens::emit_span(offsets, base, at, next, tokens, count);
-                let outcome = put.outcome;
-                count = put.count;
-                if !book::is_done(outcome) {
-                    return Cut { outcome, count };
-                }
-            }
-            WordNumber::Bad => {
-                return Cut {
-                    outcome: Outcome::Damaged,
-                    count,
-                };
-            }
-        }
-    }
-    Cut {
-        outcome: Outcome::Done,
-        count,
-    }
-}
-
-// Writes every word of a block of n characters, position after position.
-fn cut_all_tokens(
-    root_children: &[u32],
-    root_words: &[i32],
-    keys: &[u64],
-    children: &[u32],
-    words: &[i32],
-    shift: u32,
-    used: usize,
-    chars: &[u32],
-    offsets: &[u32],
-    n: usize,
-    base: u32,
-    tokens: &mut [u32],
-    count: usize,
-) -> Cut
-    requires { ⌜ EquallyLong (now «root_children») (now «root_words») (now keys) (now children) (now words) ⌝ }
-    requires { ⌜ SlotCount (length (now keys)) × (shift ≡ 64 - log2 (length (now keys))) ⌝ }
-    requires { ⌜ (n ≤ length (now chars)) × (n < length (now offsets)) × Characters n (now chars) × (base + n ≤ longestText) ⌝ }
-    ensures { λ r. ⌜ ((b : Book) (place : Base) → SeenAs b (trieLent «root_children» «root_words» keys children words) used
-        → Placed place base (take n (was chars)) (was offsets)
-        → cutAnswer r (became tokens) ≡ putWalks place (take n (was chars)) 0 (written count (was tokens)) (walksOf (wordsFrom b) 0 (take n (was chars)))) ⌝ }
-{
-    let mut count = count;
-    let mut at: usize = 0;
-    while at < n {
-        let put = words_at(
-            root_children,
-            root_words,
-            keys,
-            children,
-            words,
-            shift,
-            used,
-            chars,
-            offsets,
-            n,
-            at,
-            base,
-            tokens,
-            count,
-        );
-        let outcome = put.outcome;
-        count = put.count;
-        if !book::is_done(outcome) {
-            return Cut { outcome, count };
-        }
-        at += 1;
-    }
-    Cut {
-        outcome: Outcome::Done,
-        count,
-    }
-}
 
 // The blocks of a sentence, one after the other, up to one that is stopped.
 fn cut_all_blocks(
@@ -175,7 +45,8 @@ fn cut_all_blocks(
     requires { ⌜ (length (now sentence) ≤ longestText) × IsSome (charsOf (now sentence)) ⌝ }
     requires { ⌜ (length (textFrom (now sentence) 0) < length (now chars)) × (length (textFrom (now sentence) 0) < length (now offsets)) ⌝ }
     ensures { λ r. ⌜ ((b : Book) → SeenAs b (trieLent «root_children» «root_words» keys children words) used
-        → cutAnswer r (became tokens) ≡ cutBlocks (cutAllBlock (vocabularyOf b)) start (blocksOf cutAllClass (textFrom (was sentence) 0)) (written 0 (was tokens))) ⌝ }
+        → cutAnswer r (became tokens) ≡ cutBlocks (cutAllBlock (vocabularyOf b)) start (blocksOf cutAllClass (textFrom (was sentence) 0))
+        (written 0 (was tokens))) ⌝ }
 {
     let mut at = splitter::start(sentence);
     let mut base: u32 = 0;
@@ -184,7 +55,7 @@ fn cut_all_blocks(
         let run = splitter::next_recording(sentence, at, CharacterClass::CutAll, chars, offsets);
         let n = run.chars;
         let cut = if run.matched {
-            cut_all_tokens(
+            cut_all_tokens::cut_all_tokens(
                 root_children,
                 root_words,
                 keys,
@@ -200,7 +71,7 @@ fn cut_all_blocks(
                 count,
             )
         } else {
-            tokens::cut_all_unmatched(chars, offsets, n, base, tokens, count)
+            unmatched::cut_all_unmatched(chars, offsets, n, base, tokens, count)
         };
         let outcome = cut.outcome;
         count = cut.count;

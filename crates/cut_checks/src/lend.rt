@@ -9,7 +9,7 @@ use cases::output;
 use cases::output::print;
 use cases::output::print_next;
 use cases::script;
-use dict::Loaded;
+use load_lines::Loaded;
 
 // Prints what `prepare` answered. Where there is no book the head is zeros.
 fn prepared(answer: Prepared) -> Head {

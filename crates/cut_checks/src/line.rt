@@ -9,7 +9,7 @@ use cuts::Cut;
 // Whether a cut has not begun, by its number and the head: 8 is met before the cut only where the head is damaged.
 fn has_not_begun(number: u32, head: Head, records: usize, slots: usize) -> bool {
     if number == 8 {
-        if 4_194_304 < slots {
+        if trie::MOST_SLOTS < slots {
             return false;
         }
         return book::is_head_damaged(head, records, slots);

@@ -93,7 +93,7 @@ fn answer_lines(
                     more: false,
                 };
             }
-            let answer = answers::answer_line(
+            let answer = answer_line::answer_line(
                 head,
                 root_children,
                 root_words,

@@ -11,7 +11,8 @@ use Rattle.classes.specs.WhiteSpace.{whiteSpace}
 use Rattle.classes.specs.Ranges.{inRanges}
 use Rattle.classes.specs.Blocks.{cutClass, han, hanMain, hanExtension, asciiLetterOrDigit, cutSign}
 use Rattle.classes.specs.Tokens.{joins, connector, asciiLetter}
-use Rattle.trie.specs.Trie.{getOf, walk, wordAt, wordNumber, testedStep, openStep, bitsAt, fromRoot, nodeAt, probeOf, probeFrom, nextSlot, startSlot, log2, keyOf, filterHash, keyBit, childBit, reach, newSlots, withBits, withWord, emptyFrom, emptySlot, extend, insert}
+use Rattle.trie.specs.Trie.{getOf, walk, wordAt, wordNumber, testedStep, openStep, bitsAt, fromRoot, nodeAt, probeOf, probeFrom, nextSlot, startSlot, log2}
+use Rattle.trie.specs.Trie.{keyOf, filterHash, keyBit, childBit, reach, newSlots, withBits, withWord, emptyFrom, emptySlot, extend, insert}
 use Rattle.trie.specs.SlotCounts.{slotCount}
 use Rattle.arith.specs.Bits.{hasBit, withBit}
 use Rattle.book.specs.Returns.{allowed, headDamaged, emptyBook, lookupOf}
@@ -27,10 +28,22 @@ use Rattle.cuts.specs.Tokens.{stepsFrom, piecesOf, joined, cutRoute, sin
 use Rattle.cuts.specs.Cuts.{putSpans, putWalks, cutBlock, searchBlock, cutAllBlock, cutBlocks, cutWith, cutOf, cutAllOf, cutForSearchOf}
 use Rattle.cuts.specs.Examples.{StarredExamples, SearchExamples}
 
+-- both by computation, under one list of the definitions that are computed
+examples : StarredExamples × SearchExamples
+unfolding charsOf charsWithin readFrom byteLength encode linesOf meaningOf fieldsOf pieces frequencyOf number whiteSpace inRanges cutClass han hanMain
+    hanExtension asciiLetterOrDigit cutSign joins connector asciiLetter getOf walk wordAt wordNumber testedStep openStep bitsAt fromRoot nodeAt
+    probeOf probeFrom nextSlot startSlot log2 keyOf filterHash keyBit childBit reach newSlots withBits withWord emptyFrom emptySlot extend insert
+    slotCount hasBit withBit allowed headDamaged emptyBook lookupOf decide emptySlots replaced inserted loadLines loadOf wordsFrom walkOn logFloat L
+    logOf highestOne significand nextBit nextSignificand bitsOf floatOf blocksOf walksOf edgesWithin choose routeOf stepsFrom piecesOf joined cutRoute
+    singly runsOf parts partsOf wordsOfSize searched tokenOf putSpans putWalks cutBlock searchBlock cutAllBlock cutBlocks cutWith cutOf cutAllOf
+    cutForSearchOf leadingZeros span climb size odd units round neg sum add sub lt eq ofInt whole
+examples = (
+  (starred-logarithms, refl, refl, refl, refl, refl, refl, refl, refl, refl, refl, refl, refl, refl, refl, refl, refl, refl),
+  (refl, refl, refl, refl, refl, refl),
+)
+
 pub starred-examples : StarredExamples
-unfolding charsOf charsWithin readFrom byteLength encode linesOf meaningOf fieldsOf pieces frequencyOf number whiteSpace inRanges cutClass han hanMain hanExtension asciiLetterOrDigit cutSign joins connector asciiLetter getOf walk wordAt wordNumber testedStep openStep bitsAt fromRoot nodeAt probeOf probeFrom nextSlot startSlot log2 keyOf filterHash keyBit childBit reach newSlots withBits withWord emptyFrom emptySlot extend insert slotCount hasBit withBit allowed headDamaged emptyBook lookupOf decide emptySlots replaced inserted loadLines loadOf wordsFrom walkOn logFloat L logOf highestOne significand nextBit nextSignificand bitsOf floatOf blocksOf walksOf edgesWithin choose routeOf stepsFrom piecesOf joined cutRoute singly runsOf parts partsOf wordsOfSize searched tokenOf putSpans putWalks cutBlock searchBlock cutAllBlock cutBlocks cutWith cutOf cutAllOf cutForSearchOf leadingZeros span climb size odd units round neg sum add sub lt eq ofInt whole
-starred-examples = (starred-logarithms, refl, refl, refl, refl, refl, refl, refl, refl, refl, refl, refl, refl, refl, refl, refl, refl, refl)
+starred-examples = examples .0
 
 pub search-examples : SearchExamples
-unfolding charsOf charsWithin readFrom byteLength encode linesOf meaningOf fieldsOf pieces frequencyOf number whiteSpace inRanges cutClass han hanMain hanExtension asciiLetterOrDigit cutSign joins connector asciiLetter getOf walk wordAt wordNumber testedStep openStep bitsAt fromRoot nodeAt probeOf probeFrom nextSlot startSlot log2 keyOf filterHash keyBit childBit reach newSlots withBits withWord emptyFrom emptySlot extend insert slotCount hasBit withBit allowed headDamaged emptyBook lookupOf decide emptySlots replaced inserted loadLines loadOf wordsFrom walkOn logFloat L logOf highestOne significand nextBit nextSignificand bitsOf floatOf blocksOf walksOf edgesWithin choose routeOf stepsFrom piecesOf joined cutRoute singly runsOf parts partsOf wordsOfSize searched tokenOf putSpans putWalks cutBlock searchBlock cutAllBlock cutBlocks cutWith cutOf cutAllOf cutForSearchOf leadingZeros span climb size odd units round neg sum add sub lt eq ofInt whole
-search-examples = (refl, refl, refl, refl, refl, refl)
+search-examples = examples .1

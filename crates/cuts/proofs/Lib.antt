@@ -1,4 +1,5 @@
 -- What is proved of the definitions of the cuts.
 pub mod Examples
 pub mod Sequence
+pub mod Lists
 pub mod Walks

@@ -6,8 +6,9 @@ use mathlib.Core.List.{List, [], _∷_, _++_}
 use Prim.Native.Nat.{ℕ}
 use Rattle.book.specs.declared.Outcome.the-variants.{Done, TokensFull}
 use Rattle.book.specs.Returns.{isDone}
-use Rattle.cuts.specs.Tokens.{Span, Written, hasPlace, put, tokenOf}
-use Rattle.cuts.specs.Cuts.{CutAnswer, answer, andThen, Base, putSpans}
+use Rattle.cuts.specs.declared.Cut.{Cut}
+use Rattle.cuts.specs.Tokens.{Span, Written, hasPlace, put, tokenOf, written}
+use Rattle.cuts.specs.Cuts.{CutAnswer, answer, cutAnswer, andThen, Base, putSpans}
 
 -- ---- the two cases of `andThen`
 
@@ -37,7 +38,8 @@ module _ (base : Base) (chars : List ℕ) where
   put-none w = refl
 
   -- where there is a place, a token is written
-  pub put-one : (w : Written) (s : Span) → hasPlace w ≡ true → putSpans base chars w (s ∷ []) ≡ answer Done (put w (tokenOf (base .chars) (base .bytes) chars s))
+  pub put-one : (w : Written) (s : Span) → hasPlace w ≡ true
+      → putSpans base chars w (s ∷ []) ≡ answer Done (put w (tokenOf (base .chars) (base .bytes) chars s))
   unfolding putSpans
   put-one w s e = rw (putSpans, e)
 
@@ -47,18 +49,21 @@ module _ (base : Base) (chars : List ℕ) where
   put-refused w s e = rw (putSpans, e)
 
   -- a first one, then the others
-  pub put-then : (w : Written) (s : Span) (ss : List Span) → putSpans base chars w (s ∷ ss) ≡ andThen (putSpans base chars w (s ∷ [])) (λ v. putSpans base chars v ss)
+  pub put-then : (w : Written) (s : Span) (ss : List Span)
+      → putSpans base chars w (s ∷ ss) ≡ andThen (putSpans base chars w (s ∷ [])) (λ v. putSpans base chars v ss)
   unfolding putSpans
   put-then w s ss = by (hasPlace w)
     where
       by : (t : Bool)
           → elim t [ true ↦ putSpans base chars (put w (tokenOf (base .chars) (base .bytes) chars s)) ss | false ↦ answer TokensFull w ]
-          ≡ andThen (elim t [ true ↦ answer Done (put w (tokenOf (base .chars) (base .bytes) chars s)) | false ↦ answer TokensFull w ]) (λ v. putSpans base chars v ss)
+          ≡ andThen (elim t [ true ↦ answer Done (put w (tokenOf (base .chars) (base .bytes) chars s)) | false ↦ answer TokensFull w ])
+          (λ v. putSpans base chars v ss)
       by true = refl
       by false = refl
 
   -- some, then the others
-  pub put-both : (w : Written) (firsts ss : List Span) → putSpans base chars w (firsts ++ ss) ≡ andThen (putSpans base chars w firsts) (λ v. putSpans base chars v ss)
+  pub put-both : (w : Written) (firsts ss : List Span)
+      → putSpans base chars w (firsts ++ ss) ≡ andThen (putSpans base chars w firsts) (λ v. putSpans base chars v ss)
   unfolding putSpans
   put-both w [] ss = refl
   put-both w (s ∷ firsts) ss = by (hasPlace w) (put-both (put w (tokenOf (base .chars) (base .bytes) chars s)) firsts ss)
@@ -71,3 +76,24 @@ module _ (base : Base) (chars : List ℕ) where
           ≡ andThen (elim t [ true ↦ putSpans base chars next firsts | false ↦ answer TokensFull w ]) (λ v. putSpans base chars v ss)
       by true rest = rest
       by false rest = refl
+
+-- ---- a call that writes the first of the spans that are left
+
+module _ (place : Base) (cs : List ℕ) (w : Written) {total : CutAnswer} {spans : List Span} (come : putSpans place cs w spans ≡ total) where
+  -- none is left
+  pub all-put : spans ≡ [] → answer Done w ≡ total
+  all-put none = sym (put-none place cs w) ∙ ap (putSpans place cs w) (sym none) ∙ come
+
+  module _ (firsts rest : List Span) (split : spans ≡ firsts ++ rest) (r : Cut) (after : List ℕ) (put : cutAnswer r after ≡ putSpans place cs w firsts) where
+    with-rest : andThen (cutAnswer r after) (λ v. putSpans place cs v rest) ≡ total
+    with-rest =
+        ap (λ (a : CutAnswer). andThen a (λ v. putSpans place cs v rest)) put
+        ∙ sym (put-both place cs w firsts rest)
+        ∙ ap (putSpans place cs w) (sym split)
+        ∙ come
+
+    pub stops-there : isDone (r .outcome) ≡ false → cutAnswer r after ≡ total
+    stops-there e = sym (stops (cutAnswer r after) (λ v. putSpans place cs v rest) e) ∙ with-rest
+
+    pub goes-on-there : isDone (r .outcome) ≡ true → putSpans place cs (written (r .count) after) rest ≡ total
+    goes-on-there e = sym (goes-on (cutAnswer r after) (λ v. putSpans place cs v rest) e) ∙ with-rest

@@ -151,7 +151,8 @@ module _ {Wanted : Book → Walked → Type 0}
         -- it is this one
         module _ {known : WordNumber} (e : number ≡ known) where
           at-number : (b : Book) → Seen b → Wanted b (metBefore b known (next + 1) (rest b))
-          at-number b seen = subst (Wanted b) (on-word b place next cs _ in-cs char r (step-in b seen) q stepped known (sym e ∙ read-in b seen)) (here .wanted b seen)
+          at-number b seen = subst (Wanted b) (on-word b place next cs _ in-cs char r (step-in b seen) q stepped known (sym e ∙ read-in b seen))
+              (here .wanted b seen)
 
         -- a bad word number
         pub at-bad : number ≡ Bad → (b : Book) → Seen b → Wanted b broken

@@ -1,3 +1,2 @@
--- The laws that the functions' proofs cite.
-pub mod Lines
+-- The laws that the proof of `load_dict` cites.
 pub mod Loads

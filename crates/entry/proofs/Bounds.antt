@@ -1,5 +1,6 @@
 -- What a decision to write promises: the record is there, and the head's numbers stay small.
--- A word is replaced in a record that a lookup found, so one that is used; it is inserted only where a record is left, the slots stay within six eighths and the nodes below the limit.
+-- A word is replaced in a record that a lookup found, so one that is used; it is inserted only where a record is left, the slots stay within six eighths
+-- and the nodes below the limit.
 -- Assumes nothing.
 use mathlib.Core.Path.{_≡_, refl, sym, ap, _∙_}
 use mathlib.Core.Bool.{Bool, true, false, cond}
@@ -26,18 +27,18 @@ use Rattle.book.specs.declared.Decision.the-variants.{Refuse, Replace, Insert}
 use Rattle.book.specs.declared.Outcome.{Outcome}
 use Rattle.book.specs.declared.Outcome.the-variants.{Done}
 use Rattle.book.specs.Areas.{bookOf}
-use Rattle.book.specs.Returns.{Book, numberOf, allowed, greatestTotal, lastNode, damagedHead}
+use Rattle.book.specs.Returns.{Book, numberOf, allowed, greatestTotal, greatestNext, damagedHead}
 use Rattle.book.specs.Enter.{emptySlots, noRecord, nextRecord, decideHeld, decideNew, decideReached, decideAbsent, decide, enter}
 use Rattle.book.proofs.Held.{held-used}
 use Rattle.book.proofs.Sizes.{sizes}
 use Rattle.book.proofs.Areas.{slot-count}
-use Rattle.entry.specs.Texts.{decideText}
+use Rattle.decision.specs.Texts.{decideText}
 
 -- what a decision promises of a book with so many records and slots; a refusal is not answered with 0
 pub record Inserts (h : Head) (records slotCount slots nodes : ℕ) : Type 0 where
   pub record-left : nextRecord h < records
   pub slots-within : (h .slots + slots) * 8 ≤ slotCount * 6
-  pub nodes-within : h .next + nodes ≤ lastNode
+  pub nodes-within : h .next + nodes ≤ greatestNext
 
 abbrev pub Promises : Book → Decision → Type 0
 Promises b (Refuse o) = o ≡ Done → ⊥
@@ -63,7 +64,7 @@ new b slots nodes frequency =
     (λ e. by-test b (noRecord (b .head) (length (b .frequencies))) _ _ (λ f. not-done Outcome.RecordsFull 5 refl)
     (λ f. by-test b (ltb (length (b .trie .keys) * 6) ((b .head .slots + slots) * 8)) _ _ (λ g. not-done Outcome.SlotsFull 6 refl)
     (λ g. by-test b (ltb (emptySlots (b .trie .keys)) slots) _ _ (λ i. not-done Outcome.Damaged 7 refl)
-    (λ i. by-test b (ltb lastNode (b .head .next + nodes)) _ _ (λ j. not-done Outcome.Damaged 7 refl)
+    (λ i. by-test b (ltb greatestNext (b .head .next + nodes)) _ _ (λ j. not-done Outcome.Damaged 7 refl)
     (λ j. record { record-left = leb-false _ _ f; slots-within = ltb-false _ _ g; nodes-within = ltb-false _ _ j })))))
 
 reached : (b : Book) (p : ParentRef) (rest : List ℕ) (w : WordNumber) (frequency : ℕ) → Promises b (decideReached b p rest w frequency)
@@ -96,7 +97,8 @@ decided-text b (some word) frequency = decided b word frequency
 
 -- ---- the same of what `decide` answers, whatever the logarithms
 
-module _ (head : Head) (trie : CharTrie) (f : List ℕ) (o : Option (List ℕ)) (frequency : ℕ) {d : Decision} (decides : (l : List Float) → d ≡ decideText (bookOf head trie f l) o frequency) where
+module _ (head : Head) (trie : CharTrie) (f : List ℕ) (o : Option (List ℕ)) (frequency : ℕ) {d : Decision}
+    (decides : (l : List Float) → d ≡ decideText (bookOf head trie f l) o frequency) where
   promised : Promises (bookOf head trie f []) d
   promised = rw (decides []) (decided-text (bookOf head trie f []) o frequency)
 
@@ -111,4 +113,11 @@ module _ (head : Head) (trie : CharTrie) (f : List ℕ) (o : Option (List ℕ)) 
 pub insert-sizes : (a b c d e f g shift : ℕ) → allowed a b c d e f g ≡ true → shift ≡ 64 - log2 c → Insertion.Sizes a b c d e shift
 insert-sizes a b c d e f g shift h shifted =
     let s = sizes a b c d e f g h in
-    record { rootLengths = s .root-words; slotCount = slot-count a b c d e f g h; childLengths = s .slot-children; wordLengths = s .slot-words; shifted = shifted }
+    record {
+      rootLengths = s .root-words;
+      slotCount = slot-count a b c d e f g h;
+      childLengths = s .slot-children;
+      wordLengths =
+          s .slot-words;
+      shifted = shifted;
+    }

@@ -20,7 +20,8 @@ use Rattle.book.specs.Areas.{bookOf}
 use Rattle.book.specs.Returns.{Book, damagedHead}
 use Rattle.book.specs.Enter.{nextRecord, recordsAfterNew, withTotal, replaced, inserted}
 use Rattle.entry.specs.declared.Entered.{Entered}
-use Rattle.entry.specs.Texts.{decideText, enterAnswer, enterBy, enterText}
+use Rattle.decision.specs.Texts.{decideText}
+use Rattle.entry.specs.Texts.{enterAnswer, enterBy, enterText}
 
 by-decision : (b : Book) (o : Option (List ℕ)) (frequency : ℕ) → IsSome o → damagedHead b ≡ false → (d : Decision) → d ≡ decideText b o frequency
     → enterBy b (Option·getD o []) frequency d ≡ enterText b o frequency
@@ -28,7 +29,8 @@ unfolding enterText decideText
 by-decision b none frequency h sound d e = absurd h
 by-decision b (some word) frequency h sound d e = rw (sound, e)
 
-module _ (head : Head) (trie : CharTrie) (f : List ℕ) (l : List Float) (o : Option (List ℕ)) (frequency : ℕ) (h : IsSome o) {damaged : Bool} (tested : damaged ≡ damagedHead (bookOf head trie f l)) where
+module _ (head : Head) (trie : CharTrie) (f : List ℕ) (l : List Float) (o : Option (List ℕ)) (frequency : ℕ) (h : IsSome o) {damaged : Bool}
+    (tested : damaged ≡ damagedHead (bookOf head trie f l)) where
   pub head-damaged : damaged ≡ true → enterAnswer Damaged (bookOf head trie f l) ≡ enterText (bookOf head trie f l) o frequency
   unfolding enterText
   head-damaged e = go o h
@@ -46,7 +48,8 @@ module _ (head : Head) (trie : CharTrie) (f : List ℕ) (l : List Float) (o : Op
 
     -- the same with the areas as the writes leave them
     pub replaced-by : {n total : ℕ} → d ≡ Replace n total → (f₁ : List ℕ) → f₁ ≡ set f n frequency → (l₁ : List Float) → l₁ ≡ set l n (logFloat frequency)
-        → {r : Entered} → r ≡ record { outcome = Done; head = withTotal head total } → enterAnswer (r .outcome) (bookOf (r .head) trie f₁ l₁) ≡ enterText (bookOf head trie f l) o frequency
+        → {r : Entered} → r ≡ record { outcome = Done; head = withTotal head total }
+        → enterAnswer (r .outcome) (bookOf (r .head) trie f₁ l₁) ≡ enterText (bookOf head trie f l) o frequency
     unfolding replaced
     replaced-by e f₁ ef l₁ el er = rw (er, ef, el) (rw e at decided)
 
@@ -54,6 +57,7 @@ module _ (head : Head) (trie : CharTrie) (f : List ℕ) (l : List Float) (o : Op
         → (trie₁ : CharTrie) → trie₁ ≡ insert trie Root (Option·getD o []) (head .next) number
         → (f₁ : List ℕ) → f₁ ≡ set f n frequency
         → (l₁ : List Float) → l₁ ≡ set l n (logFloat frequency)
-        → enterAnswer Done (bookOf (record { records = recordsAfterNew head; slots = head .slots + slots; next = head .next + nodes; total = total }) trie₁ f₁ l₁) ≡ enterText (bookOf head trie f l) o frequency
+        → enterAnswer Done (bookOf (record { records = recordsAfterNew head; slots = head .slots + slots; next = head .next + nodes; total = total })
+        trie₁ f₁ l₁) ≡ enterText (bookOf head trie f l) o frequency
     unfolding inserted
     inserted-by e n taken number en trie₁ et f₁ ef l₁ el = rw (et, en, ef, el, taken) (rw e at decided)

@@ -1,5 +1,4 @@
 -- The laws that the functions' proofs cite.
-pub mod Decisions
 pub mod Bounds
 pub mod Entering
 pub mod Lines

@@ -25,7 +25,12 @@ abbrev pub loadOn : EnterAnswer → ℕ → List (List ℕ) → LoadAnswer
 loadOn e n ls = cond (isDone (e .outcome)) (loadLines (e .book) (n + 1) ls) (loadAnswer (e .outcome) (n + 1) (e .book))
 
 by-decision : (b : Book) (word : List ℕ) (frequency n : ℕ) (ls : List (List ℕ)) (d : Decision) → Promises b d
-    → loadOn (enterBy b word frequency d) n ls ≡ elim d [ Refuse o ↦ loadAnswer o (n + 1) b | Replace r total ↦ loadLines (replaced b r frequency total) (n + 1) ls | Insert slots nodes total ↦ loadLines (inserted b word frequency slots nodes total) (n + 1) ls ]
+    → loadOn (enterBy b word frequency d) n ls ≡ elim d [
+      | Refuse o ↦ loadAnswer o (n + 1) b
+      | Replace r total ↦ loadLines (replaced b r frequency total) (n + 1) ls
+      | Insert slots nodes total ↦ loadLines
+          (inserted b word frequency slots nodes total) (n + 1) ls
+    ]
 by-decision b word frequency n ls (Refuse o) p = rw (refusal b o p)
 by-decision b word frequency n ls (Replace r total) p = refl
 by-decision b word frequency n ls (Insert slots nodes total) p = refl

@@ -4,24 +4,11 @@ use Prim.Native.Nat.{ℕ}
 use mathlib.Core.List.{List}
 use mathlib.Core.Option.{Option, none, some}
 use Rattle.lines.specs.Lines.{Meaning, malformed, blank, badFrequency, entry, meaningOf}
-use Rattle.trie.specs.declared.ParentRef.the-variants.{Root}
-use Rattle.trie.specs.Trie.{reach}
 use Rattle.book.specs.declared.Decision.{Decision}
-use Rattle.book.specs.declared.Decision.the-variants.{Refuse}
 use Rattle.book.specs.declared.Outcome.{Outcome}
 use Rattle.book.specs.declared.Outcome.the-variants.{Done, Malformed, BadFrequency}
 use Rattle.book.specs.Returns.{Book}
-use Rattle.book.specs.Enter.{decideAbsent, decide, enter, written, outcomeOf}
-
--- how a word enters that the lookup does not find; a text that is malformed does not
-unfoldable pub absentText : Book → Option (List ℕ) → ℕ → Decision
-absentText b none frequency = Refuse Malformed
-absentText b (some word) frequency = decideAbsent b (reach (b .trie) Root word) frequency
-
--- how a word enters
-unfoldable pub decideText : Book → Option (List ℕ) → ℕ → Decision
-decideText b none frequency = Refuse Malformed
-decideText b (some word) frequency = decide b word frequency
+use Rattle.book.specs.Enter.{enter, written, outcomeOf}
 
 -- what entering a word answers, and the book afterwards
 pub record EnterAnswer : Type 0 where

@@ -1,136 +1,27 @@
-//! How a word enters a book: first the decision, which tests everything and writes nothing, then the write, which refuses
+//! A word enters a book: first the decision, which tests everything and writes nothing (`decision`), then the write, which refuses
 //! nothing. A refused word leaves no trace.
 ghost use mathlib.Core.Path.{_≡_};
-ghost use mathlib.Core.List.{List};
 ghost use mathlib.Core.Option.{IsSome};
-ghost use lib.Ieee.{Float};
-ghost use mathlib.Core.Bool.{true, false};
+ghost use mathlib.Core.Bool.{true};
 ghost use Prim.Native.Nat.{_-_, _≤_, _<_};
 ghost use Rattle.score.specs.Logarithm.{logFloat};
 ghost use lib.ListN.{length, set};
 ghost use Rattle.utf8.specs.Text.{charsOf};
-ghost use Rattle.trie.specs.Trie.{log2, SlotCount};
-ghost use Rattle.trie.specs.Lent.{was, became, trieLent};
-ghost use Rattle.walk.specs.Walk.{EquallyLong};
-ghost use Rattle.book.specs.Areas.{bookOf, bookLent, bookLeft};
+ghost use Rattle.trie.specs.Trie.{log2};
+ghost use Rattle.trie.specs.Lent.{was, became};
+ghost use Rattle.book.specs.Areas.{bookLent, bookLeft};
 ghost use Rattle.book.specs.declared.Outcome.the-variants.{Done};
-ghost use Rattle.book.specs.Returns.{longestText, greatestTotal, allowed, headDamaged};
+ghost use Rattle.book.specs.Returns.{longestText, mostRecords, allowed};
 ghost use Rattle.book.specs.Enter.{withTotal};
-ghost use Rattle.entry.specs.Texts.{enterAnswer, absentText, decideText, enterText};
+ghost use Rattle.entry.specs.Texts.{enterAnswer, enterText};
 use book::Decision;
 use book::Head;
 use book::Outcome;
-use trie::Got;
-use trie::WordNumber;
-use walk::Room;
-
-// How a word enters that the lookup does not find: by the insertion's own walk, which tests no bits.
-fn decide_absent(
-    head: Head,
-    root_children: &[u32],
-    root_words: &[i32],
-    keys: &[u64],
-    children: &[u32],
-    words: &[i32],
-    frequencies: &[u32],
-    shift: u32,
-    word: &[u8],
-    frequency: u64,
-) -> Decision
-    requires { ⌜ EquallyLong (now «root_children») (now «root_words») (now keys) (now children) (now words) ⌝ }
-    requires { ⌜ SlotCount (length (now keys)) ⌝ }
-    requires { ⌜ shift ≡ 64 - log2 (length (now keys)) ⌝ }
-    requires { ⌜ headDamaged head (length (now frequencies)) (length (now keys)) ≡ false ⌝ }
-    requires { ⌜ IsSome (charsOf (now word)) × (length (now word) ≤ longestText) × (frequency ≤ greatestTotal) ⌝ }
-    ensures { λ r. ⌜ ((logarithms : List Float) → r ≡ absentText (bookOf head (trieLent «root_children» «root_words» keys children words) (was frequencies) logarithms) (charsOf (was word)) frequency) ⌝ }
-{
-    let used = head.records as usize;
-    match walk::room_for(
-        root_children,
-        root_words,
-        keys,
-        children,
-        words,
-        shift,
-        used,
-        word,
-    ) {
-        Room::Damaged => Decision::Refuse(Outcome::Damaged),
-        Room::Whole(number) => match number {
-            WordNumber::Bad => Decision::Refuse(Outcome::Damaged),
-            WordNumber::NoWord => book::decide_new(head, frequencies.len(), keys, 0, 0, frequency),
-            WordNumber::Record(_) => book::decide_new(
-                head,
-                frequencies.len(),
-                keys,
-                0,
-                0,
-                frequency,
-            ),
-        },
-        Room::Partly(slots, nodes) => book::decide_new(
-            head,
-            frequencies.len(),
-            keys,
-            slots as u64,
-            nodes as u64,
-            frequency,
-        ),
-    }
-}
-
-// How a word enters: by its lookup, which tests the bits.
-pub fn decide(
-    head: Head,
-    root_children: &[u32],
-    root_words: &[i32],
-    keys: &[u64],
-    children: &[u32],
-    words: &[i32],
-    frequencies: &[u32],
-    shift: u32,
-    word: &[u8],
-    frequency: u64,
-) -> Decision
-    requires { ⌜ EquallyLong (now «root_children») (now «root_words») (now keys) (now children) (now words) ⌝ }
-    requires { ⌜ SlotCount (length (now keys)) ⌝ }
-    requires { ⌜ shift ≡ 64 - log2 (length (now keys)) ⌝ }
-    requires { ⌜ headDamaged head (length (now frequencies)) (length (now keys)) ≡ false ⌝ }
-    requires { ⌜ IsSome (charsOf (now word)) × (length (now word) ≤ longestText) × (frequency ≤ greatestTotal) × (length (now frequencies) ≤ 1048576) ⌝ }
-    ensures { λ r. ⌜ ((logarithms : List Float) → r ≡ decideText (bookOf head (trieLent «root_children» «root_words» keys children words) (was frequencies) logarithms) (charsOf (was word)) frequency) ⌝ }
-{
-    let used = head.records as usize;
-    match walk::get(
-        root_children,
-        root_words,
-        keys,
-        children,
-        words,
-        shift,
-        used,
-        word,
-    ) {
-        Got::Held(n) => book::decide_held(head.total, frequencies[n], n, frequency),
-        Got::Absent => decide_absent(
-            head,
-            root_children,
-            root_words,
-            keys,
-            children,
-            words,
-            frequencies,
-            shift,
-            word,
-            frequency,
-        ),
-        Got::Damaged => Decision::Refuse(Outcome::Damaged),
-    }
-}
 
 // A record's frequency, and the logarithm that goes with it.
 fn set_record(frequencies: &mut [u32], logarithms: &mut [f64], n: usize, frequency: u32)
     requires { ⌜ (n < length (now frequencies)) × (n < length (now logarithms)) ⌝ }
-    requires { ⌜ (length (now frequencies) ≤ 1048576) × (length (now logarithms) ≤ 1048576) ⌝ }
+    requires { ⌜ (length (now frequencies) ≤ mostRecords) × (length (now logarithms) ≤ mostRecords) ⌝ }
     ensures { λ _. ⌜ (became frequencies ≡ set (was frequencies) n frequency) × (became logarithms ≡ set (was logarithms) n (logFloat frequency)) ⌝ }
 {
     frequencies[n] = frequency;
@@ -172,9 +63,11 @@ pub fn load_entry(
     word: &[u8],
     frequency: u32,
 ) -> Entered
-    requires { ⌜ allowed (length (now «root_children»)) (length (now «root_words»)) (length (now keys)) (length (now children)) (length (now words)) (length (now frequencies)) (length (now logarithms)) ≡ true ⌝ }
+    requires { ⌜ allowed (length (now «root_children»)) (length (now «root_words»)) (length (now keys)) (length (now children)) (length (now words))
+        (length (now frequencies)) (length (now logarithms)) ≡ true ⌝ }
     requires { ⌜ (shift ≡ 64 - log2 (length (now keys))) × IsSome (charsOf (now word)) × (length (now word) ≤ longestText) ⌝ }
-    ensures { λ r. ⌜ enterAnswer (r .outcome) (bookLeft (r .head) «root_children» «root_words» keys children words frequencies logarithms) ≡ enterText (bookLent head «root_children» «root_words» keys children words frequencies logarithms) (charsOf (was word)) frequency ⌝ }
+    ensures { λ r. ⌜ enterAnswer (r .outcome) (bookLeft (r .head) «root_children» «root_words» keys children words frequencies logarithms)
+        ≡ enterText (bookLent head «root_children» «root_words» keys children words frequencies logarithms) (charsOf (was word)) frequency ⌝ }
 {
     if book::is_head_damaged(head, frequencies.len(), keys.len()) {
         return Entered {
@@ -182,7 +75,7 @@ pub fn load_entry(
             head,
         };
     }
-    let decision = decide(
+    let decision = decision::decide(
         head,
         root_children,
         root_words,

@@ -73,7 +73,8 @@ all-bytes line bytes i so-far n same end =
 -- ---- a line's bytes by its length
 
 -- a byte more
-longer : (b n : ℕ) (bytes : List ℕ) (rest : Option (List ℕ)) → withByte b rest ≡ some bytes → ((bs : List ℕ) → rest ≡ some bs → n ≡ 2 * length bs) → n + 2 ≡ 2 * length bytes
+longer : (b n : ℕ) (bytes : List ℕ) (rest : Option (List ℕ)) → withByte b rest ≡ some bytes → ((bs : List ℕ) → rest ≡ some bs → n ≡ 2 * length bs)
+    → n + 2 ≡ 2 * length bytes
 longer b n bytes none e known = let z : _≡_ {A = ℕ} 0 1 = cc in absurd (omega arith)
 longer b n bytes (some bs) e known = longer-by b n bytes bs (eqb b 256) e (known bs refl)
   where
@@ -88,12 +89,17 @@ some-length (x ∷ []) bytes e = let z : _≡_ {A = ℕ} 0 1 = cc in absurd (ome
 some-length (x ∷ y ∷ line) bytes e = omega (arith, longer (byteOf x y) (length line) bytes (bytesOf line) e (some-length line))
 
 -- what is no frame by its length: there are no bytes, or none after a kind, or more than the longest frame has
-framed-by : (line : List ℕ) → ((n : ℕ) → length line ≡ 2 * n → 1 ≤ n → n ≤ longest + 1 → ⊥) → (bytes : Option (List ℕ)) → bytesOf line ≡ bytes → frame NoFrame [] ≡ framed bytes
+framed-by : (line : List ℕ) → ((n : ℕ) → length line ≡ 2 * n → 1 ≤ n → n ≤ longest + 1 → ⊥) → (bytes : Option (List ℕ)) → bytesOf line ≡ bytes
+    → frame NoFrame [] ≡ framed bytes
 framed-by line other none e = refl
 framed-by line other (some []) e = refl
 framed-by line other (some (kind ∷ text)) e =
     let long : longest < length text =
-    elim (decLt longest (length text)) [ yes h ↦ h | no h ↦ absurd (other (suc (length text)) (some-length line (kind ∷ text) e) (omega arith) (omega arith)) ] in
+    elim (decLt longest (length text)) [
+      | yes h ↦ h
+      | no h ↦ absurd
+          (other (suc (length text)) (some-length line (kind ∷ text) e) (omega arith) (omega arith))
+    ] in
     rw (lt-leb (length text) longest long)
 
 pub not-framed : (line : List ℕ) → ((n : ℕ) → length line ≡ 2 * n → 1 ≤ n → n ≤ longest + 1 → ⊥) → frame NoFrame [] ≡ frameOf line
@@ -115,7 +121,8 @@ pub no-digits : (line : List ℕ) → none ≡ bytesOf line → frame NoFrame []
 unfolding frameOf
 no-digits line e = rw (← e)
 
-pub no-frame-read : (line text : List ℕ) (kind : Kind) (n : ℕ) → (kind ≡ NoFrame) × (n ≡ 0) → frame NoFrame [] ≡ frameOf line → frame kind (take n text) ≡ frameOf line
+pub no-frame-read : (line text : List ℕ) (kind : Kind) (n : ℕ) → (kind ≡ NoFrame) × (n ≡ 0) → frame NoFrame [] ≡ frameOf line
+    → frame kind (take n text) ≡ frameOf line
 no-frame-read line text kind n answered e = rw (answered .0, answered .1) e
 
 -- a line that is digits, and not too long

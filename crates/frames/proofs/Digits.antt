@@ -6,7 +6,7 @@ use native.Mathlib.Omega.{arith}
 use lib.Dec.{leb, ltb}
 use borrow.Author.Tests.{ltb-true, le-leb, lt-leb, lt-ltb, le-ltb, ne-eqb}
 use Rattle.frames.specs.declared.Kind.the-variants.{Load, Cut, CutAll, CutForSearch, NoFrame}
-use Rattle.frames.specs.Frames.{between, valueOf, byteOf, kindOf, digitOf}
+use Rattle.frames.specs.Frames.{between, valueOf, byteOf, kindOf}
 
 module _ (first last b : ℕ) where
   within : first ≤ b → b ≤ last → between first last b ≡ true
@@ -74,14 +74,6 @@ fits-by v w false t p q b e other = absurd (other (sym e))
 pub byte-fits : (high low b : ℕ) → b ≡ byteOf high low → (b ≡ 256 → ⊥) → b < 256
 unfolding byteOf
 byte-fits high low b e other = fits-by (valueOf high) (valueOf low) (ltb (valueOf high) 16) (ltb (valueOf low) 16) refl refl b (sym e) other
-
--- ---- the digit of a value
-
-pub small-digit : (n : ℕ) → n < 10 → 0x30 + n ≡ digitOf n
-small-digit n h = rw (lt-ltb n 10 h)
-
-pub letter-digit : (n : ℕ) → 10 ≤ n → 0x57 + n ≡ digitOf n
-letter-digit n h = rw (le-ltb n 10 h)
 
 -- ---- the kind of a number
 

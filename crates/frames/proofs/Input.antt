@@ -11,7 +11,7 @@ use borrow.Author.Tests.{lt-ltb, le-ltb, eq-eqb, ne-eqb}
 use lib.Dec.{eqb}
 use lib.ListN.{length, getD, set, take, drop, length-set, length-append, drop-of-length-le}
 use lib.Seq.{drop-cons, take-suc-set, length-take-le, take-all, take-at, append-snoc}
-use Rattle.frames.specs.Frames.{lineEnd}
+use Rattle.printing.specs.Answers.{lineEnd}
 use Rattle.frames.specs.Input.{mostKept, keep, taken, lineFrom}
 use Rattle.frames.specs.Claims.{NoLineEnd, LinesEndAtLineEnds, LastLineNeedsNone, after, PiecesMakeNoDifference}
 
@@ -44,11 +44,13 @@ pub record Taking (input : List ℕ) (from : ℕ) (before : List ℕ) (so-far : 
   pub long : length line ≡ mostKept
   pub on : from ≤ at
 
-pub taking : (input : List ℕ) (from : ℕ) (line : List ℕ) (so-far : ℕ) → so-far ≤ mostKept → length line ≡ mostKept → Taking input from line so-far line so-far from
+pub taking : (input : List ℕ) (from : ℕ) (line : List ℕ) (so-far : ℕ) → so-far ≤ mostKept → length line ≡ mostKept
+    → Taking input from line so-far line so-far from
 taking input from line so-far few long = record { whole = refl; few = few; long = long; on = omega arith }
 
 module _ (input : List ℕ) (from : ℕ) (before : List ℕ) (so-far : ℕ) (line : List ℕ) (kept at : ℕ) (t : Taking input from before so-far line kept at) where
-  pub ends-line : (b : ℕ) → at < length input → b ≡ getD input at 0 → b ≡ lineEnd → taken (take kept line) true (drop (at + 1) input) ≡ lineFrom (take so-far before) (drop from input)
+  pub ends-line : (b : ℕ) → at < length input → b ≡ getD input at 0 → b ≡ lineEnd
+      → taken (take kept line) true (drop (at + 1) input) ≡ lineFrom (take so-far before) (drop from input)
   ends-line b inside is e = sym (line-end (take kept line) input at inside (sym is ∙ e)) ∙ t .whole
 
   pub ends-input : length input ≤ at → taken (take kept line) false (drop at input) ≡ lineFrom (take so-far before) (drop from input)
@@ -64,7 +66,8 @@ module _ (input : List ℕ) (from : ℕ) (before : List ℕ) (so-far : ℕ) (lin
         let fits : kept < length line = omega (arith, t .long) in
         record {
           whole =
-              ap (λ (l : List ℕ). lineFrom l (drop (at + 1) input)) (rw add-one (take-suc-set line kept b fits) ∙ sym (keep-more (take kept line) b (omega arith)))
+              ap (λ (l : List ℕ). lineFrom l (drop (at + 1) input))
+              (rw add-one (take-suc-set line kept b fits) ∙ sym (keep-more (take kept line) b (omega arith)))
               ∙ sym (one-byte (take kept line) input at inside b is other)
               ∙ t .whole;
           few = omega arith;

@@ -4,7 +4,8 @@ use mathlib.Core.List.{List, [], _∷_, _++_}
 use mathlib.Core.Path.{_≡_}
 use Prim.Native.Nat.{ℕ}
 use lib.ListN.{take}
-use Rattle.frames.specs.Frames.{lineEnd, frameOf}
+use Rattle.printing.specs.Answers.{lineEnd}
+use Rattle.frames.specs.Frames.{frameOf}
 use Rattle.frames.specs.Input.{mostKept, Taken, taken, lineFrom}
 
 -- of a line of any length its beginning tells whether it is a frame, and which

@@ -1,13 +1,11 @@
--- A frame and its answer, as lines of bytes: document 01, "Examples by book", "Program `cutlines`".
+-- A frame as a line of bytes: document 01, "Examples by book", "Program `cutlines`".
 -- Assumes nothing.
-use Prim.Native.Nat.{ℕ, _+_, _-_, _*_, _/_, _%_}
+use Prim.Native.Nat.{ℕ, _+_, _-_, _*_}
 use mathlib.Core.Bool.{Bool, true, false, cond, _&&_}
-use mathlib.Core.List.{List, [], _∷_, _++_}
-use mathlib.Core.Path.{_≡_}
+use mathlib.Core.List.{List, [], _∷_}
 use mathlib.Core.Option.{Option, none, some}
 use lib.Dec.{eqb, leb, ltb}
 use lib.ListN.{length}
-use lib.Seq.{sets}
 use Rattle.frames.specs.declared.Kind.{Kind}
 use Rattle.frames.specs.declared.Kind.the-variants.{Load, Cut, CutAll, CutForSearch, NoFrame}
 
@@ -65,35 +63,3 @@ framed (some (kind ∷ text)) = cond (leb (length text) longest) (frame (kindOf 
 
 unfoldable pub frameOf : List ℕ → Frame
 frameOf line = framed (bytesOf line)
-
--- ---- an answer: "one line in lowercase hexadecimal"
-
-abbrev pub digitOf : ℕ → ℕ
-digitOf n = cond (ltb n 10) (0x30 + n) (0x57 + n)
-
-abbrev pub two : ℕ → List ℕ
-two n = digitOf (n / 16 % 16) ∷ digitOf (n % 16) ∷ []
-
-abbrev pub four : ℕ → List ℕ
-four n = digitOf (n / 4096 % 16) ∷ digitOf (n / 256 % 16) ∷ digitOf (n / 16 % 16) ∷ digitOf (n % 16) ∷ []
-
-unfoldable pub fours : List ℕ → List ℕ
-fours [] = []
-fours (n ∷ ns) = four n ++ fours ns
-
-abbrev pub lineEnd : ℕ
-lineEnd = 0x0A
-
--- "the returned number (two digits), line or token count (four), then per token character start, end, byte start, end (four each)": the tokens'
--- numbers in their order
-unfoldable pub lineOf : ℕ → ℕ → List ℕ → List ℕ
-lineOf number count numbers = two number ++ (four count ++ (fours numbers ++ (lineEnd ∷ [])))
-
--- a line is written into an area from a place on, and ends at another
-pub record Put (before : List ℕ) (at : ℕ) (line after : List ℕ) (end : ℕ) : Type 0 where
-  pub area : after ≡ sets before at line
-  pub ends : end ≡ at + length line
-
--- "any other line prints fe"
-abbrev pub noFrameLine : List ℕ
-noFrameLine = 0x66 ∷ 0x65 ∷ lineEnd ∷ []

@@ -5,7 +5,8 @@ use mathlib.Core.Bool.{Bool, true, false, cond}
 use mathlib.Core.List.{List, [], _∷_, _++_}
 use lib.Dec.{eqb, ltb}
 use lib.ListN.{length}
-use Rattle.frames.specs.Frames.{longest, lineEnd}
+use Rattle.printing.specs.Answers.{lineEnd}
+use Rattle.frames.specs.Frames.{longest}
 
 -- the digits of the longest frame, its kind with them
 abbrev pub longestLine : ℕ

@@ -32,14 +32,17 @@ use Rattle.insert.proofs.Words.{no-more, one-more}
 
 module _ (t : CharTrie) (p : ParentRef) (c : ℕ) (cs word : List ℕ) (node : ℕ) (number : ℤ) (split : word ≡ c ∷ cs) where
   after-step : (r : Step) (u : CharTrie) → stepped r u ≡ newStep t p c node → extendStepped (stepped r u) cs (node + 1) number ≡ extend t p word node number
-  after-step r u made = ap (λ (x : Stepped). extendStepped x cs (node + 1) number) made ∙ sym (ap (λ (l : List ℕ). extend t p l node number) split ∙ extend-steps-then-extends t p c cs node number)
+  after-step r u made = ap (λ (x : Stepped). extendStepped x cs (node + 1) number) made
+      ∙ sym (ap (λ (l : List ℕ). extend t p l node number) split ∙ extend-steps-then-extends t p c cs node number)
 
-  extend-on : (r : Step) (u : CharTrie) (q : ParentRef) → stepped r u ≡ newStep t p c node → r ≡ At q → extend u q cs (node + 1) number ≡ extend t p word node number
+  extend-on : (r : Step) (u : CharTrie) (q : ParentRef) → stepped r u ≡ newStep t p c node → r ≡ At q
+      → extend u q cs (node + 1) number ≡ extend t p word node number
   unfolding extendStepped
   extend-on r u q made e = ap (λ (x : Step). extendStepped (stepped x u) cs (node + 1) number) (sym e) ∙ after-step r u made
 
   -- of a step that leads nowhere the code knows only that it is one of the other variants
-  extend-stops : (r : Step) (u : CharTrie) → stepped r u ≡ newStep t p c node → OneOf (1 ∷ 2 ∷ []) (tagOf Step·type.the-type r) → u ≡ extend t p word node number
+  extend-stops : (r : Step) (u : CharTrie) → stepped r u ≡ newStep t p c node → OneOf (1 ∷ 2 ∷ []) (tagOf Step·type.the-type r)
+      → u ≡ extend t p word node number
   unfolding extendStepped
   extend-stops (At q) u made (inl h) = absurd (omega arith)
   extend-stops (At q) u made (inr h) = absurd (omega arith)
@@ -56,10 +59,12 @@ pub record Extending (t₀ : CharTrie) (s : List ℕ) (number : ℤ) (goal t : C
   pub room : node + (length s - at) < 2 ^ 32
   pub same : extend t p (characters (drop at s)) node number ≡ goal
 
-pub begins : (t : CharTrie) (s : List ℕ) (number : ℤ) (p : ParentRef) (at node : ℕ) → Inside (length (t .rootChildren)) (length (t .keys)) p → IsSome (charsOf (drop at s)) → node + length s < 2 ^ 32
+pub begins : (t : CharTrie) (s : List ℕ) (number : ℤ) (p : ParentRef) (at node : ℕ) → Inside (length (t .rootChildren)) (length (t .keys)) p
+    → IsSome (charsOf (drop at s)) → node + length s < 2 ^ 32
     → Extending t s number (extend t p (characters (drop at s)) node number) t p at node
 unfolding charsFrom
-begins t s number p at node inside well-formed room = record { long = same-lengths t; inside = inside; well-formed = well-formed; room = omega arith; same = refl }
+begins t s number p at node inside well-formed room =
+    record { long = same-lengths t; inside = inside; well-formed = well-formed; room = omega arith; same = refl }
 
 module _ {t₀ : CharTrie} {s : List ℕ} {number : ℤ} {goal t : CharTrie} {p : ParentRef} {at node : ℕ} (here : Extending t₀ s number goal t p at node) where
   pub ends : (u : CharTrie) → length s ≤ at → u ≡ withWord t p number → u ≡ goal
@@ -79,7 +84,8 @@ module _ {t₀ : CharTrie} {s : List ℕ} {number : ℤ} {goal t : CharTrie} {p 
         let longer : SameLengths u t = rw (ap (λ (x : Stepped). x .trie) made) (new-step-keeps t p c node) in
         record {
           long = then-same longer (here .long);
-          inside = inside-same _ _ _ _ q (sym (here .long .rootChildren)) (sym (here .long .keys)) (new-inside t p c node (slots-same _ _ (here .long .keys) allowed) next u q made e);
+          inside = inside-same _ _ _ _ q (sym (here .long .rootChildren)) (sym (here .long .keys))
+              (new-inside t p c node (slots-same _ _ (here .long .keys) allowed) next u q made e);
           well-formed = still-chars s at (here .well-formed) c w read;
           room = omega arith;
           same = extend-on t p c _ _ node number split next u q made e ∙ here .same;

@@ -61,11 +61,13 @@ pub new-step-keeps : (t : CharTrie) (p : ParentRef) (c node : ℕ) → SameLengt
 unfolding newStep
 new-step-keeps t p c node = by-root (fromRoot t p c)
   where
-    by-root : (b : Bool) → SameLengths (cond b (stepped (At (RootEntry c)) (newRootEntry t c node)) (newStepBy (emptySlot (t .keys) (keyOf (nodeAt t p) c)) t p c node) .trie) t
+    by-root : (b : Bool) → SameLengths (cond b (stepped (At (RootEntry c)) (newRootEntry t c node))
+        (newStepBy (emptySlot (t .keys) (keyOf (nodeAt t p) c)) t p c node) .trie) t
     by-root true = entry-keeps t c node
     by-root false = by-search (emptySlot (t .keys) (keyOf (nodeAt t p) c)) t p c node
 
-after-step : (r : Stepped) (cs : List ℕ) (node : ℕ) (number : ℤ) → ((u : CharTrie) (q : ParentRef) → SameLengths (extend u q cs node number) u) → SameLengths (extendStepped r cs node number) (r .trie)
+after-step : (r : Stepped) (cs : List ℕ) (node : ℕ) (number : ℤ) → ((u : CharTrie) (q : ParentRef) → SameLengths (extend u q cs node number) u)
+    → SameLengths (extendStepped r cs node number) (r .trie)
 unfolding extendStepped
 after-step r cs node number rest = by-step (r .step)
   where

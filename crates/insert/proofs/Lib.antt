@@ -1,6 +1,5 @@
 -- Proofs of the claims, and the laws that the functions' proofs, here and in the crates above, cite.
 pub mod Sizes
-pub mod Places
 pub mod Words
 pub mod NewSteps
 pub mod Lengths

@@ -55,37 +55,47 @@ pub record Marking (rootChildren₀ keys₀ children₀ s rootChildren keys chil
   pub child-slots : length children ≡ length children₀
   pub inside : Inside (length rootChildren₀) (length keys₀) p
   pub well-formed : IsSome (charsFrom s at)
-  pub same : (rootWords words : List ℤ) → mark (trieOf rootChildren rootWords keys children words) p (characters (drop at s)) ≡ mark (trieOf rootChildren₀ rootWords keys₀ children₀ words) Root (characters s)
+  pub same : (rootWords words : List ℤ) → mark (trieOf rootChildren rootWords keys children words) p (characters (drop at s))
+      ≡ mark (trieOf rootChildren₀ rootWords keys₀ children₀ words) Root (characters s)
 
 pub begins : (rootChildren keys children s : List ℕ) → IsSome (charsOf s) → Marking rootChildren keys children s rootChildren keys children Root 0
 unfolding charsFrom
-begins rootChildren keys children s whole = record { entries = refl; slots = refl; child-slots = refl; inside = starts-inside _ _; well-formed = whole; same = λ rootWords words. refl }
+begins rootChildren keys children s whole = record
+    { entries = refl; slots = refl; child-slots = refl; inside = starts-inside _ _; well-formed = whole; same = λ rootWords words. refl }
 
 -- what the function ensures, where it ends with r
 abbrev Marks : List ℕ → List ℕ → List ℕ → List ℕ → List ℕ → List ℕ → List ℕ → Marked → Type 0
 Marks rootChildren₀ keys₀ children₀ s rootChildren keys children r =
     Ready (length rootChildren₀) (length keys₀) s r
-    × ((rootWords words : List ℤ) → marked (reachOf s r) (trieOf rootChildren rootWords keys children words) ≡ mark (trieOf rootChildren₀ rootWords keys₀ children₀ words) Root (characters s))
+    × ((rootWords words : List ℤ) → marked (reachOf s r) (trieOf rootChildren rootWords keys children words)
+    ≡ mark (trieOf rootChildren₀ rootWords keys₀ children₀ words) Root (characters s))
 
-module _ {rootChildren₀ keys₀ children₀ s rootChildren keys children : List ℕ} {p : ParentRef} {at : ℕ} (here : Marking rootChildren₀ keys₀ children₀ s rootChildren keys children p at) where
+module _ {rootChildren₀ keys₀ children₀ s rootChildren keys children : List ℕ} {p : ParentRef} {at : ℕ}
+    (here : Marking rootChildren₀ keys₀ children₀ s rootChildren keys children p at) where
   pub ends : length s ≤ at → Marks rootChildren₀ keys₀ children₀ s rootChildren keys children (UpTo p at)
   unfolding Ready reachOf charsFrom
   ends past = ((here .inside, here .well-formed), λ rootWords words. mark-end _ p _ (no-more s at past) ∙ here .same rootWords words)
 
-  module _ {c w : ℕ} (read : characterAt s at ≡ Char c w) {next : Step} (opened : (rootWords words : List ℤ) → next ≡ openStep (trieOf rootChildren rootWords keys children words) p c) where
+  module _ {c w : ℕ} (read : characterAt s at ≡ Char c w) {next : Step}
+      (opened : (rootWords words : List ℤ) → next ≡ openStep (trieOf rootChildren rootWords keys children words) p c) where
     split : characters (drop at s) ≡ c ∷ characters (drop (at + w) s)
     split = one-more s at (here .well-formed) c w read
 
     pub ends-absent : next ≡ Nothing → Marks rootChildren₀ keys₀ children₀ s rootChildren keys children (UpTo p at)
     unfolding Ready reachOf charsFrom
-    ends-absent e = ((here .inside, here .well-formed), λ rootWords words. mark-absent _ p c _ _ split next (opened rootWords words) e ∙ here .same rootWords words)
+    ends-absent e = (
+      (here .inside, here .well-formed),
+      λ rootWords words. mark-absent _ p c _ _ split next (opened rootWords words) e
+          ∙ here .same rootWords words,
+    )
 
     pub ends-damaged : next ≡ Damaged → Marks rootChildren₀ keys₀ children₀ s rootChildren keys children Marked.Damaged
     unfolding Ready reachOf
     ends-damaged e = (tt, λ rootWords words. mark-damaged _ p c _ _ split next (opened rootWords words) e ∙ here .same rootWords words)
 
     module _ (rootChildren′ keys′ children′ : List ℕ)
-        (bits : (rootWords words : List ℤ) → trieOf rootChildren′ rootWords keys′ children′ words ≡ withBits (trieOf rootChildren rootWords keys children words) p c) where
+        (bits : (rootWords words : List ℤ) → trieOf rootChildren′ rootWords keys′ children′ words
+        ≡ withBits (trieOf rootChildren rootWords keys children words) p c) where
       pub goes-on : {q : ParentRef} → SlotCount (length keys₀) → next ≡ At q → Marking rootChildren₀ keys₀ children₀ s rootChildren′ keys′ children′ q (at + w)
       goes-on {q} allowed e =
           let kept = bits-keep (trieOf rootChildren [] keys children []) p c in
@@ -114,14 +124,17 @@ insert-marks-then-extends t p (c ∷ cs) node number = by-step (openStep t p c) 
     by-step Damaged rest = refl
 
 module _ (t u : CharTrie) (s word : List ℕ) (r : Marked) (node : ℕ) (number : ℤ) (marks : marked (reachOf s r) u ≡ mark t Root word) where
-  pub inserted : (p : ParentRef) (at : ℕ) (v : CharTrie) → r ≡ UpTo p at → v ≡ extend u p (characters (drop at s)) node number → v ≡ insert t Root word node number
+  pub inserted : (p : ParentRef) (at : ℕ) (v : CharTrie) → r ≡ UpTo p at → v ≡ extend u p (characters (drop at s)) node number
+      → v ≡ insert t Root word node number
   unfolding reachOf extendMarked
   inserted p at v e extended =
-      extended ∙ ap (λ (x : Marked). extendMarked (marked (reachOf s x) u) node number) (sym e) ∙ ap (λ (m : MarkedTrie). extendMarked m node number) marks ∙ sym (insert-marks-then-extends t Root word node number)
+      extended ∙ ap (λ (x : Marked). extendMarked (marked (reachOf s x) u) node number) (sym e)
+      ∙ ap (λ (m : MarkedTrie). extendMarked m node number) marks ∙ sym (insert-marks-then-extends t Root word node number)
 
   pub not-inserted : r ≡ Marked.Damaged → u ≡ insert t Root word node number
   unfolding reachOf extendMarked
-  not-inserted e = ap (λ (x : Marked). extendMarked (marked (reachOf s x) u) node number) (sym e) ∙ ap (λ (m : MarkedTrie). extendMarked m node number) marks ∙ sym (insert-marks-then-extends t Root word node number)
+  not-inserted e = ap (λ (x : Marked). extendMarked (marked (reachOf s x) u) node number) (sym e)
+      ∙ ap (λ (m : MarkedTrie). extendMarked m node number) marks ∙ sym (insert-marks-then-extends t Root word node number)
 
 -- a place and a position that the marks end at
 module _ (entries slots : ℕ) (s : List ℕ) (r : Marked) (ready : Ready entries slots s r) (p : ParentRef) (at : ℕ) (e : r ≡ UpTo p at) where

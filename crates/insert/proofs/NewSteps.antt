@@ -28,7 +28,8 @@ use Rattle.insert.specs.Claims.{ExtendStepsThenExtends}
 -- ---- one new step, as the code takes it
 
 -- a search that ends at no empty slot: of its answer the code knows only that it is one of the other variants
-not-empty : (r : Probe) (t : CharTrie) (p : ParentRef) (ch node : ℕ) → OneOf (0 ∷ 2 ∷ []) (tagOf Probe·type.the-type r) → stepped Damaged t ≡ newStepBy r t p ch node
+not-empty : (r : Probe) (t : CharTrie) (p : ParentRef) (ch node : ℕ) → OneOf (0 ∷ 2 ∷ []) (tagOf Probe·type.the-type r)
+    → stepped Damaged t ≡ newStepBy r t p ch node
 unfolding newStepBy
 not-empty (Found i) t p ch node h = refl
 not-empty (Empty i) t p ch node (inl h) = absurd (omega arith)
@@ -70,11 +71,13 @@ module _ (t : CharTrie) (p : ParentRef) (c node : ℕ) (allowed : SlotCount (len
   leads-inside = by-root (fromRoot t p c) refl
     where
       by-root : (b : Bool) → fromRoot t p c ≡ b
-          → LeadsInside t (cond b (stepped (At (RootEntry c)) (newRootEntry t c node)) (newStepBy (emptySlot (t .keys) (keyOf (nodeAt t p) c)) t p c node) .step)
+          → LeadsInside t (cond b (stepped (At (RootEntry c)) (newRootEntry t c node))
+          (newStepBy (emptySlot (t .keys) (keyOf (nodeAt t p) c)) t p c node) .step)
       by-root true e = only-first t p c e .1
       by-root false e = slot-leads-inside (emptySlot (t .keys) (keyOf (nodeAt t p) c)) refl
 
-  pub new-inside : (r : Step) (u : CharTrie) (q : ParentRef) → stepped r u ≡ newStep t p c node → r ≡ At q → Inside (length (t .rootChildren)) (length (t .keys)) q
+  pub new-inside : (r : Step) (u : CharTrie) (q : ParentRef) → stepped r u ≡ newStep t p c node → r ≡ At q
+      → Inside (length (t .rootChildren)) (length (t .keys)) q
   new-inside r u q made e = subst (LeadsInside t) (sym (ap (λ (x : Stepped). x .step) made) ∙ e) leads-inside
 
 -- ---- a chain of them

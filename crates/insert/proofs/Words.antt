@@ -24,4 +24,5 @@ module _ (s : List ℕ) (at : ℕ) where
   pub one-more : IsSome (charsFrom s at) → (c w : ℕ) → characterAt s at ≡ Char c w → characters (drop at s) ≡ c ∷ characters (drop (at + w) s)
   unfolding characters charsFrom
   one-more well-formed c w read =
-      ap (λ (chars : Option (List ℕ)). Option·getD chars []) (from-char s at c w read) ∙ first-and-rest c (charsFrom s (at + w)) (still-chars s at well-formed c w read)
+      ap (λ (chars : Option (List ℕ)). Option·getD chars []) (from-char s at c w read)
+      ∙ first-and-rest c (charsFrom s (at + w)) (still-chars s at well-formed c w read)

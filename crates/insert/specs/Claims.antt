@@ -24,8 +24,10 @@ InsertKeepsLengths = (t : CharTrie) (p : ParentRef) (cs : List ℕ) (node : ℕ)
 
 -- an insertion sets the bits of the steps that are there, and then makes those that are not
 abbrev pub InsertMarksThenExtends : Type 0
-InsertMarksThenExtends = (t : CharTrie) (p : ParentRef) (cs : List ℕ) (node : ℕ) (number : ℤ) → insert t p cs node number ≡ extendMarked (mark t p cs) node number
+InsertMarksThenExtends = (t : CharTrie) (p : ParentRef) (cs : List ℕ) (node : ℕ) (number : ℤ)
+    → insert t p cs node number ≡ extendMarked (mark t p cs) node number
 
 -- an extension makes one new step, and then the others
 abbrev pub ExtendStepsThenExtends : Type 0
-ExtendStepsThenExtends = (t : CharTrie) (p : ParentRef) (c : ℕ) (cs : List ℕ) (node : ℕ) (number : ℤ) → extend t p (c ∷ cs) node number ≡ extendStepped (newStep t p c node) cs (node + 1) number
+ExtendStepsThenExtends = (t : CharTrie) (p : ParentRef) (c : ℕ) (cs : List ℕ) (node : ℕ) (number : ℤ)
+    → extend t p (c ∷ cs) node number ≡ extendStepped (newStep t p c node) cs (node + 1) number

@@ -15,7 +15,8 @@ use Rattle.trie.specs.declared.Probe.{Probe}
 use Rattle.trie.specs.declared.Probe.the-variants.{Found, Empty, Endless}
 use Rattle.trie.specs.declared.Step.{Step}
 use Rattle.trie.specs.declared.Step.the-variants.{At, Nothing, Damaged}
-use Rattle.trie.specs.Trie.{CharTrie, log2, SlotCount, keyOf, nodeAt, fromRoot, openStep, Reach, Reached, NoEnd, withBits, newRootEntry, newSlot, emptySlot, extend}
+use Rattle.trie.specs.Trie.{CharTrie, log2, SlotCount, keyOf, nodeAt, fromRoot, openStep, Reach, Reached, NoEnd, withBits, newRootEntry, newSlot, emptySlot}
+use Rattle.trie.specs.Trie.{extend}
 use Rattle.walk.specs.Walk.{Inside}
 use Rattle.insert.specs.declared.Marked.{Marked}
 use Rattle.insert.specs.declared.Marked.the-variants.{UpTo}

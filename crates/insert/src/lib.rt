@@ -17,7 +17,7 @@ ghost use lib.ListN.{length, drop};
 ghost use Rattle.utf8.specs.Text.{charsOf};
 ghost use Rattle.trie.specs.declared.ParentRef.the-variants.{Root};
 ghost use Rattle.trie.specs.Trie as Trie;
-ghost use Rattle.trie.specs.Trie.{trieOf, log2, SlotCount, withBits, withWord, newRootEntry, newSlot};
+ghost use Rattle.trie.specs.Trie.{trieOf, log2, SlotCount};
 ghost use Rattle.trie.specs.Lent.{was, became, trieLent, trieLeft};
 ghost use Rattle.walk.specs.Walk.{Inside};
 ghost use Rattle.insert.specs.Insert as Insert;
@@ -26,101 +26,12 @@ use trie::ParentRef;
 use trie::Probe;
 use trie::Step;
 
-// The word number of a step at which no word ends.
-const NO_WORD: i32 = -1;
-
 // How far a word's steps are there.
 pub enum Marked {
     // Up to a place; the rest of the word stands from a position of its text on.
     UpTo(ParentRef, usize),
     // A probe without an end: the book is damaged.
     Damaged,
-}
-
-// A place gains a character's filter bits: a slot both, a root entry the child's, the root neither.
-fn set_bits(
-    root_children: &mut [u32],
-    keys: &mut [u64],
-    children: &mut [u32],
-    place: ParentRef,
-    ch: u32,
-)
-    requires { ⌜ Inside (length (now «root_children»)) (length (now keys)) place ⌝ }
-    requires { ⌜ length (now children) ≡ length (now keys) ⌝ }
-    ensures { λ _. ⌜
-        ((rootWords words : List ℤ)
-        → trieOf (became «root_children») rootWords (became keys) (became children) words
-        ≡ withBits (trieOf (was «root_children») rootWords (was keys) (was children) words) place ch)
-        ⌝ }
-{
-    let bits = trie::filter_bits(ch);
-    match place {
-        ParentRef::Root => {}
-        ParentRef::RootEntry(i) => {
-            root_children[i] = arith::set_bit_u32(root_children[i], bits.child);
-        }
-        ParentRef::Slot(i) => {
-            keys[i] = arith::set_bit_u64(keys[i], bits.key);
-            children[i] = arith::set_bit_u32(children[i], bits.child);
-        }
-    }
-}
-
-// The word that ends at a place has this record.
-fn set_word(root_words: &mut [i32], words: &mut [i32], place: ParentRef, number: i32)
-    requires { ⌜ Inside (length (now «root_words»)) (length (now words)) place ⌝ }
-    ensures { λ _. ⌜
-        ((rootChildren keys children : List ℕ)
-        → trieOf rootChildren (became «root_words») keys children (became words)
-        ≡ withWord (trieOf rootChildren (was «root_words») keys children (was words)) place number)
-        ⌝ }
-{
-    match place {
-        ParentRef::Root => {}
-        ParentRef::RootEntry(i) => {
-            root_words[i] = number;
-        }
-        ParentRef::Slot(i) => {
-            words[i] = number;
-        }
-    }
-}
-
-// A root entry for a first character that has none.
-fn new_root_entry(root_children: &mut [u32], root_words: &mut [i32], ch: usize, node: u32)
-    requires { ⌜ ch < length (now «root_children») ⌝ }
-    requires { ⌜ length (now «root_words») ≡ length (now «root_children») ⌝ }
-    ensures { λ _. ⌜
-        ((keys children : List ℕ) (words : List ℤ)
-        → trieOf (became «root_children») (became «root_words») keys children words
-        ≡ newRootEntry (trieOf (was «root_children») (was «root_words») keys children words) ch node)
-        ⌝ }
-{
-    root_children[ch] = node;
-    root_words[ch] = NO_WORD;
-}
-
-// A slot for a step that has none.
-fn new_slot(
-    keys: &mut [u64],
-    children: &mut [u32],
-    words: &mut [i32],
-    i: usize,
-    key: u64,
-    node: u32,
-)
-    requires { ⌜ i < length (now keys) ⌝ }
-    requires { ⌜ length (now children) ≡ length (now keys) ⌝ }
-    requires { ⌜ length (now words) ≡ length (now keys) ⌝ }
-    ensures { λ _. ⌜
-        ((rootChildren : List ℕ) (rootWords : List ℤ)
-        → trieOf rootChildren rootWords (became keys) (became children) (became words)
-        ≡ newSlot (trieOf rootChildren rootWords (was keys) (was children) (was words)) i key node)
-        ⌝ }
-{
-    keys[i] = key;
-    children[i] = node;
-    words[i] = NO_WORD;
 }
 
 // Follows the steps of a word that are there, from the root on. Each place that it steps on from gains the character's bits.
@@ -148,7 +59,7 @@ fn mark(
         let next = utf8::next_char(s, at);
         match walk::open_step(root_children, keys, children, shift, place, next.value) {
             Step::At(child) => {
-                set_bits(root_children, keys, children, place, next.value);
+                places::set_bits(root_children, keys, children, place, next.value);
                 place = child;
                 at += next.width;
             }
@@ -181,15 +92,15 @@ fn new_step(
 {
     if walk::from_root(root_children, place, ch) {
         let i = ch as usize;
-        new_root_entry(root_children, root_words, i, node);
+        places::new_root_entry(root_children, root_words, i, node);
         return Step::At(ParentRef::RootEntry(i));
     }
     let key = trie::key(walk::node_at(root_children, children, place), ch);
     let Probe::Empty(i) = trie::char_trie::first_empty(keys, shift, key) else {
         return Step::Damaged;
     };
-    set_bits(root_children, keys, children, place, ch);
-    new_slot(keys, children, words, i, key, node);
+    places::set_bits(root_children, keys, children, place, ch);
+    places::new_slot(keys, children, words, i, key, node);
     Step::At(ParentRef::Slot(i))
 }
 
@@ -237,7 +148,7 @@ fn extend(
         at += next.width;
         node += 1;
     }
-    set_word(root_words, words, place, number);
+    places::set_word(root_words, words, place, number);
 }
 
 // Sets the record number of a word, making its steps as needed. New nodes are numbered from `node` on, at most one for each byte

@@ -54,7 +54,8 @@ number-text cs = go (digits cs) refl
     go true e = ap number (text-digits cs e)
     go false e = no-number (encodeText cs) (digits-text cs ∙ e) ∙ sym (no-number cs e)
 
-unsigned-text : (b : ℕ) (bs : List ℕ) (c : ℕ) (cs : List ℕ) → (b ≡ 0x2B → ⊥) → (c ≡ 0x2B → ⊥) → b ∷ bs ≡ encodeText (c ∷ cs) → frequencyOf (b ∷ bs) ≡ frequencyOf (c ∷ cs)
+unsigned-text : (b : ℕ) (bs : List ℕ) (c : ℕ) (cs : List ℕ) → (b ≡ 0x2B → ⊥) → (c ≡ 0x2B → ⊥) → b ∷ bs ≡ encodeText (c ∷ cs)
+    → frequencyOf (b ∷ bs) ≡ frequencyOf (c ∷ cs)
 unfolding frequencyOf
 unsigned-text b bs c cs nb nc e = rw (ne-eqb b 0x2B nb, ne-eqb c 0x2B nc) (ap number e ∙ number-text (c ∷ cs))
 

@@ -67,7 +67,8 @@ taken p (x ∷ xs) = go (p x) refl (taken p xs)
     go false e ih = rw e
 
 taken-length : (p : ℕ → Bool) (xs : List ℕ) → length (takeWhile p xs) ≤ length xs
-taken-length p xs = let h : length (take (length (takeWhile p xs)) xs) ≡ length (takeWhile p xs) = ap length (taken p xs) in omega (arith, length-take (length (takeWhile p xs)) xs)
+taken-length p xs = let h : length (take (length (takeWhile p xs)) xs) ≡ length (takeWhile p xs) = ap length (taken p xs) in
+    omega (arith, length-take (length (takeWhile p xs)) xs)
 
 first-of : (xs : List ℕ) → 0 < length xs → linesOf xs ≡ take (length (takeWhile within xs)) xs ∷ linesOf (drop (length (takeWhile within xs) + 1) xs)
 first-of [] h = absurd (omega arith)

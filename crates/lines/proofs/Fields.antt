@@ -1,5 +1,6 @@
 -- Fields, by the positions at which white space begins and ends.
--- A text is its leading white space, then a field up to the next white space, then the fields of the rest. The bytes of each part follow one another, so a position after a part's bytes has the characters after it.
+-- A text is its leading white space, then a field up to the next white space, then the fields of the rest. The bytes of each part follow one another, so
+-- a position after a part's bytes has the characters after it.
 -- Assumes nothing.
 use mathlib.Core.Path.{_≡_, refl, sym, ap, _∙_}
 use mathlib.Core.Bool.{Bool, true, false, not, cond, Bool·beq}
@@ -85,7 +86,8 @@ unfolding pieces
 pieces-first [] = refl
 pieces-first (c ∷ cs) = go (whiteSpace c) refl (pieces-first cs)
   where
-    go : (t : Bool) → whiteSpace c ≡ t → pieces cs ≡ takeWhile nonSpace cs ∷ piecesAfter (dropWhile nonSpace cs) → pieces (c ∷ cs) ≡ takeWhile nonSpace (c ∷ cs) ∷ piecesAfter (dropWhile nonSpace (c ∷ cs))
+    go : (t : Bool) → whiteSpace c ≡ t → pieces cs ≡ takeWhile nonSpace cs ∷ piecesAfter (dropWhile nonSpace cs)
+        → pieces (c ∷ cs) ≡ takeWhile nonSpace (c ∷ cs) ∷ piecesAfter (dropWhile nonSpace (c ∷ cs))
     go true e ih = rw (e, pieces)
     go false e ih = rw (e, pieces) (ap (onto c) ih)
 
@@ -108,7 +110,8 @@ unfolding fieldsOf pieces
 fields-after [] = refl
 fields-after (c ∷ cs) = go (whiteSpace c) refl (fields-after cs)
   where
-    go : (t : Bool) → whiteSpace c ≡ t → nonEmpty (piecesAfter (dropWhile nonSpace cs)) ≡ fieldsOf (dropWhile nonSpace cs) → nonEmpty (piecesAfter (dropWhile nonSpace (c ∷ cs))) ≡ fieldsOf (dropWhile nonSpace (c ∷ cs))
+    go : (t : Bool) → whiteSpace c ≡ t → nonEmpty (piecesAfter (dropWhile nonSpace cs)) ≡ fieldsOf (dropWhile nonSpace cs)
+        → nonEmpty (piecesAfter (dropWhile nonSpace (c ∷ cs))) ≡ fieldsOf (dropWhile nonSpace (c ∷ cs))
     go true e ih = rw e (sym (fields-space c cs e))
     go false e ih = rw e ih
 
@@ -227,7 +230,8 @@ module _ (s : List ℕ) (at : ℕ) (cs : List ℕ) (e : charsFrom s at ≡ some 
   pub none-at : fieldAt at (charsFrom s at) ≡ Missing → fieldsOf cs ≡ []
   none-at f = by-none (dropWhile whiteSpace cs) refl f
 
-  by-left : (a b : ℕ) (ds : List ℕ) → dropWhile whiteSpace cs ≡ ds → a ≡ past whiteSpace at (charsFrom s at) → (a ≡ length s → ⊥) → b ≡ past nonSpace a (charsFrom s a) → At a b ≡ fieldAt at (charsFrom s at)
+  by-left : (a b : ℕ) (ds : List ℕ) → dropWhile whiteSpace cs ≡ ds → a ≡ past whiteSpace at (charsFrom s at) → (a ≡ length s → ⊥)
+      → b ≡ past nonSpace a (charsFrom s a) → At a b ≡ fieldAt at (charsFrom s at)
   by-left a b [] q ea l eb =
       let n : length s ≤ start = none-left s start (from-start ∙ ap some q) in
       let i : start ≤ length s = start-in in
@@ -236,7 +240,8 @@ module _ (s : List ℕ) (at : ℕ) (cs : List ℕ) (e : charsFrom s at ≡ some 
   by-left a b (d ∷ ds) q ea l eb = found-here d ds q a b ea eb
 
   -- what `next_field` answers
-  pub found : (a b : ℕ) → a ≡ past whiteSpace at (charsFrom s at) → (a ≡ length s → ⊥) → b ≡ past nonSpace a (charsFrom s a) → At a b ≡ fieldAt at (charsFrom s at)
+  pub found : (a b : ℕ) → a ≡ past whiteSpace at (charsFrom s at) → (a ≡ length s → ⊥) → b ≡ past nonSpace a (charsFrom s a)
+      → At a b ≡ fieldAt at (charsFrom s at)
   found a b ea l eb = by-left a b (dropWhile whiteSpace cs) refl ea l eb
 
   -- the text goes on after the white space

@@ -19,7 +19,8 @@ use Rattle.lines.specs.declared.Frequency.the-variants.{Value}
 use Rattle.lines.specs.declared.Field.the-variants.{Missing, At}
 use Rattle.lines.specs.declared.Line.{Line}
 use Rattle.lines.specs.declared.Line.the-variants.{Malformed, Blank, BadFrequency, Entry}
-use Rattle.lines.specs.Lines.{fieldsOf, frequencyOf, Meaning, malformed, blank, badFrequency, entry, withFrequency, meaningOfFields, meaningOfChars, meaningOf, takeWhile, past, fieldAt, linePlaced, lineOf}
+use Rattle.lines.specs.Lines.{fieldsOf, frequencyOf, Meaning, malformed, blank, badFrequency, entry, withFrequency, meaningOfFields, meaningOfChars}
+use Rattle.lines.specs.Lines.{meaningOf, takeWhile, past, fieldAt, linePlaced, lineOf}
 use Rattle.lines.proofs.Ascii.{frequency-text}
 use Rattle.lines.proofs.Fields.{FieldFound, field-at, none-at, is-some}
 
@@ -98,7 +99,8 @@ module _ (line : List ℕ) (count : ℕ) (known : Chars count ≡ countOf (chars
 
       -- the second field's bytes say what its characters say
       same-frequency : frequencyOf (take (d - c) (drop c line)) ≡ frequencyOf (second .word)
-      same-frequency = ap frequencyOf (sym (texts-only-of-encodings (take (d - c) (drop c line)) (second .word) (second .bytes) .1)) ∙ frequency-text (second .word)
+      same-frequency = ap frequencyOf (sym (texts-only-of-encodings (take (d - c) (drop c line)) (second .word) (second .bytes) .1))
+          ∙ frequency-text (second .word)
 
       two-fields : lineOf line ≡ linePlaced (byteLength (takeWhile whiteSpace cs)) (withFrequency (first .word) (frequencyOf (second .word)))
       two-fields =

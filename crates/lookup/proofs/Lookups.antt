@@ -63,7 +63,8 @@ module _ (b : Book) (word : List ℕ) where
       pub head-damaged : d ≡ true → NotLookedUp Outcome.Damaged ≡ lookupOf b word
       head-damaged h = rw (e, sym head, h) at by-tests
 
-      pub looked-up : d ≡ false → {g got : Got} → got ≡ gotOf (b .head .records) (b .trie) (charsOf word) → got ≡ g → foundBy (b .frequencies) g ≡ lookupOf b word
+      pub looked-up : d ≡ false → {g got : Got} → got ≡ gotOf (b .head .records) (b .trie) (charsOf word) → got ≡ g
+          → foundBy (b .frequencies) g ≡ lookupOf b word
       looked-up h q f = rw (sym f, q) (rw (e, sym head, h) at by-tests)
 
 -- the record that is found is one that is used, and so one of the book's

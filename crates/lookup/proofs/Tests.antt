@@ -83,7 +83,8 @@ passed {sizes} {word} tested e = by-sizes sizes refl (sym e ∙ tested)
     by-length s true l e = by-read s (leb-true (length word) longestText l) (charsOf word) refl e
     by-length s false l e = let z : _≡_ {A = ℕ} 0 1 = cc in absurd (omega arith)
 
-    by-sizes : (t : Bool) → sizes ≡ t → Word ≡ cond t (cond (leb (length word) longestText) (testedChars (charsOf word)) (Refused TooLong)) (Refused BadAreas) → Passed sizes word
+    by-sizes : (t : Bool) → sizes ≡ t → Word ≡ cond t (cond (leb (length word) longestText) (testedChars (charsOf word)) (Refused TooLong))
+        (Refused BadAreas) → Passed sizes word
     by-sizes true s e = by-length s (leb (length word) longestText) refl e
     by-sizes false s e = let z : _≡_ {A = ℕ} 0 1 = cc in absurd (omega arith)
 

@@ -1,13 +1,18 @@
--- A slice of four numbers after four writes, and a mode by its test.
+-- A slice of four numbers after four writes, what a lookup found by its case, and a mode by its test.
 -- Assumes nothing.
-use mathlib.Core.Path.{_≡_, refl}
+use mathlib.Core.Path.{_≡_, refl, sym, ap}
 use mathlib.Core.List.{List, [], _∷_}
 use Prim.Native.Nat.{ℕ}
 use native.Mathlib.Omega.{arith}
 use borrow.Author.Tests.{eq-eqb, ne-eqb}
 use lib.ListN.{length, set}
+use Rattle.book.specs.declared.Found.{Found}
+use Rattle.book.specs.Numbers.{foundReturns}
 use Rattle.cuts.specs.declared.TokenizeMode.the-variants.{Default, Search}
-use Rattle.numbers.specs.Numbers.{headLength, searchMode, modeOf}
+use Rattle.numbers.specs.Numbers.{headLength, foundAs, searchMode, modeOf}
+
+pub found-case : {found case : Found} → found ≡ case → foundAs (foundReturns case) ≡ foundAs (foundReturns found)
+found-case is = ap (λ (x : Found). foundAs (foundReturns x)) (sym is)
 
 pub to-search : (mode : ℕ) → mode ≡ searchMode → Search ≡ modeOf mode
 to-search mode e = rw (eq-eqb mode searchMode e)

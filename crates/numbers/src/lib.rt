@@ -1,8 +1,10 @@
-//! What crosses to programs in C and Rust as numbers: a book's head, in a slice of four, and the mode of a cut.
+//! What crosses to programs in C and Rust as numbers: a book's head, in a slice of four, what a lookup found, and the mode of a cut.
 ghost use mathlib.Core.Path.{_≡_};
 ghost use lib.ListN.{length};
 ghost use Rattle.trie.specs.Lent.{was, became};
-ghost use Rattle.numbers.specs.Numbers.{headLength, headOf, headNumbers, modeOf};
+ghost use Rattle.book.specs.Numbers.{foundReturns};
+ghost use Rattle.numbers.specs.Numbers.{headLength, headOf, headNumbers, foundAs, modeOf};
+use book::Found;
 use book::Head;
 use cuts::TokenizeMode;
 
@@ -11,6 +13,13 @@ pub const HEAD_LENGTH: usize = 4;
 
 // The mode of `cut_for_search`; that of `cut` is 0, and there is no other.
 pub const SEARCH: u32 = 1;
+
+// What a lookup found: document 01's number, whether the word is held (1 or 0), and its frequency.
+pub struct FoundNumbers {
+    pub number: u32,
+    pub held: u32,
+    pub frequency: u32,
+}
 
 // The head in a slice.
 pub fn read_head(head: &[u64]) -> Head
@@ -34,6 +43,29 @@ pub fn write_head(head: &mut [u64], value: Head)
     head[1] = value.slots;
     head[2] = value.next;
     head[3] = value.total;
+}
+
+// What a lookup found, in numbers.
+pub fn found_numbers(found: Found) -> FoundNumbers
+    ensures { λ r. ⌜ r ≡ foundAs (foundReturns found) ⌝ }
+{
+    match found {
+        Found::Frequency(frequency) => FoundNumbers {
+            number: 0,
+            held: 1,
+            frequency,
+        },
+        Found::Absent => FoundNumbers {
+            number: 0,
+            held: 0,
+            frequency: 0,
+        },
+        Found::NotLookedUp(outcome) => FoundNumbers {
+            number: book::number_of(outcome),
+            held: 0,
+            frequency: 0,
+        },
+    }
 }
 
 // The mode of a number.

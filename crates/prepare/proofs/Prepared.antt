@@ -1,4 +1,5 @@
--- What `prepare` answers, by the test of the sizes: the areas as they were, or each filled. Slices of one part are equally long, so each fill is as long as the empty book's part.
+-- What `prepare` answers, by the test of the sizes: the areas as they were, or each filled. Slices of one part are equally long, so each fill is as long
+-- as the empty book's part.
 -- Assumes nothing.
 use mathlib.Core.Path.{_≡_, refl, sym, ap, _∙_}
 use mathlib.Core.Bool.{Bool, true, false}

@@ -63,7 +63,8 @@ pub fn prepare(
     frequencies: &mut [u32],
     logarithms: &mut [f64],
 ) -> Prepared
-    ensures { λ r. ⌜ prepareAnswer r (trieLeft «root_children» «root_words» keys children words) (became frequencies) (became logarithms) ≡ prepareOf (trieLent «root_children» «root_words» keys children words) (was frequencies) (was logarithms) ⌝ }
+    ensures { λ r. ⌜ prepareAnswer r (trieLeft «root_children» «root_words» keys children words) (became frequencies) (became logarithms)
+        ≡ prepareOf (trieLent «root_children» «root_words» keys children words) (was frequencies) (was logarithms) ⌝ }
     ensures { λ r. ⌜ preparedReturns r ≡ prepareReturns (trieLent «root_children» «root_words» keys children words) (was frequencies) (was logarithms) ⌝ }
 {
     if !book::is_allowed(

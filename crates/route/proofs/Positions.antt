@@ -167,7 +167,8 @@ module _ (starts edgeEnds edgeRecords : List ℕ) (logarithms : List Float) (log
           ∙ written .score (getD edgeEnds place 0) (omega (arith, fit .forward i place within edge)) (fit .inside i place within edge)
 
       same-choice : asChoice choice ≡ choose logTotal (routeFrom next) next (edgesAt starts edgeEnds edgeRecords logarithms i) noEdge
-      same-choice = (rw to-next at chose) ∙ choose-same edgeEnds edgeRecords logarithms logTotal (withScores scores) (routeFrom next) 0 next _ _ noEdge same-scores
+      same-choice = (rw to-next at chose) ∙ choose-same edgeEnds edgeRecords logarithms logTotal (withScores scores) (routeFrom next)
+          0 next _ _ noEdge same-scores
 
       -- the score at the next position
       same-next : scoreAt (withScores (getD scores next nan ∷ [])) next next ≡ scoreAt (routeFrom next) next next
@@ -190,7 +191,8 @@ module _ (starts edgeEnds edgeRecords : List ℕ) (logarithms : List Float) (log
       kept-here NoEdge from to member best number = inl (member, ap (λ (b : Best). b .end) best ∙ one, number)
       kept-here (BestEdge score end n) from to member best number = inr (rw (ap (λ (b : Best). b .end) best, number) member)
 
-      number-more : (k : ℕ) → i ≤ k → k < n → KeptFor starts edgeEnds edgeRecords k (getD (set ends i (entry .end)) k 0) (getD (set records i (entry .«record»)) k 0)
+      number-more : (k : ℕ) → i ≤ k → k < n → KeptFor starts edgeEnds edgeRecords k (getD (set ends i (entry .end)) k 0)
+          (getD (set records i (entry .«record»)) k 0)
       number-more = from-here (λ (k : ℕ). k < n → Kept k) i next one (λ last. here) behind
         where
           Kept : ℕ → Type 0

@@ -8,7 +8,8 @@
 -- Assumes nothing.
 use Prim.Native.Nat.{ℕ, zero, suc, _+_, _-_, _*_, _^_, _≤_, _<_}
 use mathlib.Core.Path.{_≡_}
-use native.Mathlib.Nat.{one-mul, mul-pos, mul-le-mul-left, mul-le-mul-right, le-of-mul-le-mul-right, lt-of-mul-lt-mul-right, pow-le-pow-left, one-le-pow, le-refl, le-trans}
+use native.Mathlib.Nat.{one-mul, mul-pos, mul-le-mul-left, mul-le-mul-right, le-of-mul-le-mul-right, lt-of-mul-lt-mul-right, pow-le-pow-left, one-le-pow}
+use native.Mathlib.Nat.{le-refl, le-trans}
 use native.Mathlib.Omega.{arith}
 use lib.Pow.{pow-pos, pow-add}
 use Rattle.score.specs.Logarithm.{highestOne, significand, nextBit, nextSignificand, bitsOf, logOf, LogarithmBound}

@@ -9,7 +9,8 @@ use lib.Dec.{T, le→leb}
 use lib.IntN.{pos}
 use lib.Ieee.{Float, binary64, ofInt, inFloat}
 use Rattle.score.specs.Scores.{minusInfinity, whole, floatOf, minus}
-use Rattle.score.specs.Logarithm.{highestOne, significand, nextBit, nextSignificand, bitsOf, logOf, L, logFloat, StarredLogarithms, LogarithmSmall, LogarithmHeld, LogarithmDifference, LogarithmEdge}
+use Rattle.score.specs.Logarithm.{highestOne, significand, nextBit, nextSignificand, bitsOf, logOf, L, logFloat, StarredLogarithms, LogarithmSmall}
+use Rattle.score.specs.Logarithm.{LogarithmHeld, LogarithmDifference, LogarithmEdge}
 use Rattle.score.proofs.Scores.{edge-exact}
 use Rattle.score.proofs.Sizes.{within-more, difference-size}
 use Rattle.score.proofs.Squarings.{bits-lt}

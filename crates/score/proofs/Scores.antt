@@ -7,7 +7,8 @@ use mathlib.Core.Path.{_≡_, refl}
 use lib.IntN.{ℤ, natAbs}
 use lib.Ieee.{Float, nan, inf, fin, add, sub, lt, eq}
 use lib.Ieee.Exact.{HasValue}
-use Rattle.score.specs.Scores.{minusInfinity, whole, floatOf, plus, minus, lessThan, equals, negative, Held, WholeExact, SumExact, DifferenceExact, LessThanExact, EqualsExact, EdgeExact}
+use Rattle.score.specs.Scores.{minusInfinity, whole, floatOf, plus, minus, lessThan, equals, negative, Held, WholeExact, SumExact, DifferenceExact}
+use Rattle.score.specs.Scores.{LessThanExact, EqualsExact, EdgeExact}
 use Rattle.score.proofs.Whole.{whole-value, add-whole, sub-whole, less-whole, equal-whole}
 
 pub whole-exact : WholeExact

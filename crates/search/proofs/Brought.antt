@@ -74,7 +74,8 @@ module _ (cs : List ℕ) (plain : anyOf connector cs ≡ false) where
   itself-alone : (s : Span) → broughtBy cs [] s ≡ s ∷ []
   unfolding broughtBy partsOf
   itself-alone s =
-      let none : anyOf connector (charsBetween cs s) ≡ false = none-before connector (s .end - s .start) (drop (s .start) cs) (none-behind connector (s .start) cs plain) in
+      let none : anyOf connector (charsBetween cs s) ≡ false =
+      none-before connector (s .end - s .start) (drop (s .start) cs) (none-behind connector (s .start) cs plain) in
       rw (none, no-words 2 s, no-words 3 s)
 
   pub nothing-more : (ss : List Span) → searched cs [] ss ≡ ss
@@ -111,7 +112,8 @@ module _ (c : ℕ) where
       let low-line = codePoint 0x5F ∷ codePoint 0x25 ∷ minus in
       let dot = codePoint 0x2E ∷ low-line in
       let signs : inRanges (codePoint 0x2B ∷ codePoint 0x23 ∷ codePoint 0x26 ∷ dot) c ≡ false = none-right (han c || asciiLetterOrDigit c) (cutSign c) e in
-      let from-dot : inRanges dot c ≡ false = in-none-after 0x26 dot (in-none-after 0x23 (codePoint 0x26 ∷ dot) (in-none-after 0x2B (codePoint 0x23 ∷ codePoint 0x26 ∷ dot) signs)) in
+      let from-dot : inRanges dot c ≡ false = in-none-after 0x26 dot
+      (in-none-after 0x23 (codePoint 0x26 ∷ dot) (in-none-after 0x2B (codePoint 0x23 ∷ codePoint 0x26 ∷ dot) signs)) in
       let from-low-line : inRanges low-line c ≡ false = in-none-after 0x2E low-line from-dot in
       let from-minus : inRanges minus c ≡ false = in-none-after 0x25 minus (in-none-after 0x5F (codePoint 0x25 ∷ minus) from-low-line) in
       neither (inRange (codePoint 0x2E) c) (inRanges (codePoint 0x5F ∷ minus) c) (not-first 0x2E low-line from-dot)

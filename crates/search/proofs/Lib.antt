@@ -1,7 +1,3 @@
--- The laws that the proofs of `search` rest on, and what is proved of its definitions.
-pub mod Lists
-pub mod Parts
-pub mod Words
-pub mod Turns
+-- The laws that the proof of `search` rests on: what tokens bring, and the calls that write it.
 pub mod Brought
-pub mod Rising
+pub mod Turns

@@ -58,7 +58,8 @@ module _ (t : Tested) (work : ℕ) (area sentence : List ℕ) (cutting : List �
               go (some cs) e = let y : n ≡ length cs = cc in rw (lt-ltb work (length cs + 1) (omega arith))
 
           module _ (h : n < work) where
-            head-by : (o : Option (List ℕ)) → Chars n ≡ countOf o → t .damage ≡ true → cutChars t work cutting (written 0 area) o ≡ answer Damaged (written 0 area)
+            head-by : (o : Option (List ℕ)) → Chars n ≡ countOf o → t .damage ≡ true
+                → cutChars t work cutting (written 0 area) o ≡ answer Damaged (written 0 area)
             head-by none e d = let z : _≡_ {A = ℕ} 0 1 = cc in absurd (omega arith)
             head-by (some cs) e d = let y : n ≡ length cs = cc in rw (le-ltb work (length cs + 1) (omega arith), d)
 
@@ -67,7 +68,8 @@ module _ (t : Tested) (work : ℕ) (area sentence : List ℕ) (cutting : List �
 
 module _ (t : Tested) (work : ℕ) (area sentence : List ℕ) where
   -- nothing is refused, and nothing is cut after the tests
-  pub none-refused : t .sizes ≡ true → length area % tokenWidth ≡ 0 → length sentence ≤ longestText → (n : ℕ) → Chars n ≡ countOf (charsOf sentence) → n < work → t .damage ≡ false
+  pub none-refused : t .sizes ≡ true → length area % tokenWidth ≡ 0 → length sentence ≤ longestText → (n : ℕ) → Chars n ≡ countOf (charsOf sentence)
+      → n < work → t .damage ≡ false
       → answer Done (written 0 area) ≡ cutWith t work area (λ cs. answer Done) sentence
   none-refused s w l n e h d = sym (by-chars t work area sentence (λ cs. answer Done) s w l ∙ go (charsOf sentence) e)
     where
@@ -91,7 +93,8 @@ pub record Begun (t : Tested) (work : ℕ) (area sentence : List ℕ) : Type 0 w
 alike : (o r : Outcome) (w v : Written) → answer o w ≡ answer r v → isDone o ≡ isDone r
 alike o r w v e = ap (λ (a : CutAnswer). isDone (a .outcome)) e
 
-module _ (t : Tested) (work : ℕ) (area sentence : List ℕ) (o : Outcome) (tests : answer o (written 0 area) ≡ cutWith t work area (λ cs. answer Done) sentence) where
+module _ (t : Tested) (work : ℕ) (area sentence : List ℕ) (o : Outcome)
+    (tests : answer o (written 0 area) ≡ cutWith t work area (λ cs. answer Done) sentence) where
   -- a refusal by the tests is every cut's
   pub refused : isDone o ≡ false → (cutting : List ℕ → Written → CutAnswer) → answer o (written 0 area) ≡ cutWith t work area cutting sentence
   unfolding cutWith
@@ -103,25 +106,31 @@ module _ (t : Tested) (work : ℕ) (area sentence : List ℕ) (o : Outcome) (tes
       by-damage false cs e = absurd (false≢true (sym other ∙ alike o Done _ _ e))
 
       by-work : (s : Bool) (cs : List ℕ)
-          → answer o (written 0 area) ≡ cond s (answer WorkTooShort (written 0 area)) (cond (t .damage) (answer Damaged (written 0 area)) (answer Done (written 0 area)))
-          → answer o (written 0 area) ≡ cond s (answer WorkTooShort (written 0 area)) (cond (t .damage) (answer Damaged (written 0 area)) (cutting cs (written 0 area)))
+          → answer o (written 0 area) ≡ cond s (answer WorkTooShort (written 0 area))
+          (cond (t .damage) (answer Damaged (written 0 area)) (answer Done (written 0 area)))
+          → answer o (written 0 area) ≡ cond s (answer WorkTooShort (written 0 area))
+          (cond (t .damage) (answer Damaged (written 0 area)) (cutting cs (written 0 area)))
       by-work true cs e = e
       by-work false cs e = by-damage (t .damage) cs e
 
-      by-chars-read : (cs : Option (List ℕ)) → answer o (written 0 area) ≡ cutChars t work (λ cs. answer Done) (written 0 area) cs → answer o (written 0 area) ≡ cutChars t work cutting (written 0 area) cs
+      by-chars-read : (cs : Option (List ℕ)) → answer o (written 0 area) ≡ cutChars t work (λ cs. answer Done) (written 0 area) cs
+          → answer o (written 0 area) ≡ cutChars t work cutting (written 0 area) cs
       by-chars-read none e = e
       by-chars-read (some cs) e = by-work (ltb work (length cs + 1)) cs e
 
-      by-length : (l : Bool) → answer o (written 0 area) ≡ cond l (cutChars t work (λ cs. answer Done) (written 0 area) (charsOf sentence)) (answer TooLong (written 0 area))
+      by-length : (l : Bool) → answer o (written 0 area)
+          ≡ cond l (cutChars t work (λ cs. answer Done) (written 0 area) (charsOf sentence)) (answer TooLong (written 0 area))
           → answer o (written 0 area) ≡ cond l (cutChars t work cutting (written 0 area) (charsOf sentence)) (answer TooLong (written 0 area))
       by-length true e = by-chars-read (charsOf sentence) e
       by-length false e = e
 
       by-sizes : (z : Bool)
           → answer o (written 0 area)
-          ≡ cond z (cond (leb (length sentence) longestText) (cutChars t work (λ cs. answer Done) (written 0 area) (charsOf sentence)) (answer TooLong (written 0 area))) (answer BadAreas (written 0 area))
+          ≡ cond z (cond (leb (length sentence) longestText) (cutChars t work (λ cs. answer Done) (written 0 area) (charsOf sentence))
+          (answer TooLong (written 0 area))) (answer BadAreas (written 0 area))
           → answer o (written 0 area)
-          ≡ cond z (cond (leb (length sentence) longestText) (cutChars t work cutting (written 0 area) (charsOf sentence)) (answer TooLong (written 0 area))) (answer BadAreas (written 0 area))
+          ≡ cond z (cond (leb (length sentence) longestText) (cutChars t work cutting (written 0 area) (charsOf sentence))
+          (answer TooLong (written 0 area))) (answer BadAreas (written 0 area))
       by-sizes true e = by-length (leb (length sentence) longestText) e
       by-sizes false e = e
 
@@ -133,7 +142,8 @@ module _ (t : Tested) (work : ℕ) (area sentence : List ℕ) (o : Outcome) (tes
       not-done : (r : Outcome) → isDone r ≡ false → answer o (written 0 area) ≡ answer r (written 0 area) → ⊥
       not-done r other e = false≢true (sym other ∙ sym (alike o r _ _ e) ∙ done)
 
-      by-chars-read : (s : t .sizes ≡ true) (w : length area % tokenWidth ≡ 0) (l : length sentence ≤ longestText) (cs : Option (List ℕ)) → charsOf sentence ≡ cs
+      by-chars-read : (s : t .sizes ≡ true) (w : length area % tokenWidth ≡ 0) (l : length sentence ≤ longestText) (cs : Option (List ℕ))
+          → charsOf sentence ≡ cs
           → answer o (written 0 area) ≡ cutChars t work (λ cs. answer Done) (written 0 area) cs → Begun t work area sentence
       by-chars-read s w l none read e = absurd (not-done Malformed refl e)
       by-chars-read s w l (some cs) read e = by-work (ltb work (length cs + 1)) refl e
@@ -152,26 +162,31 @@ module _ (t : Tested) (work : ℕ) (area sentence : List ℕ) (o : Outcome) (tes
           }
 
           by-work : (z : Bool) → ltb work (length cs + 1) ≡ z
-              → answer o (written 0 area) ≡ cond z (answer WorkTooShort (written 0 area)) (cond (t .damage) (answer Damaged (written 0 area)) (answer Done (written 0 area)))
+              → answer o (written 0 area) ≡ cond z (answer WorkTooShort (written 0 area))
+              (cond (t .damage) (answer Damaged (written 0 area)) (answer Done (written 0 area)))
               → Begun t work area sentence
           by-work true h e = absurd (not-done WorkTooShort refl e)
           by-work false h e = by-damage (t .damage) refl h e
 
       by-length : (s : t .sizes ≡ true) (w : length area % tokenWidth ≡ 0) (z : Bool) → leb (length sentence) longestText ≡ z
-          → answer o (written 0 area) ≡ cond z (cutChars t work (λ cs. answer Done) (written 0 area) (charsOf sentence)) (answer TooLong (written 0 area)) → Begun t work area sentence
+          → answer o (written 0 area) ≡ cond z (cutChars t work (λ cs. answer Done) (written 0 area) (charsOf sentence))
+          (answer TooLong (written 0 area)) → Begun t work area sentence
       by-length s w true l e = by-chars-read s w (leb-true (length sentence) longestText l) (charsOf sentence) refl e
       by-length s w false l e = absurd (not-done TooLong refl e)
 
       by-tokens : (s : t .sizes ≡ true) (z : Bool) → eqb (length area % tokenWidth) 0 ≡ z
           → answer o (written 0 area)
-          ≡ cond z (cond (leb (length sentence) longestText) (cutChars t work (λ cs. answer Done) (written 0 area) (charsOf sentence)) (answer TooLong (written 0 area))) (answer BadAreas (written 0 area))
+          ≡ cond z (cond (leb (length sentence) longestText) (cutChars t work (λ cs. answer Done) (written 0 area) (charsOf sentence))
+          (answer TooLong (written 0 area))) (answer BadAreas (written 0 area))
           → Begun t work area sentence
       by-tokens s true w e = by-length s (eqb-true (length area % tokenWidth) 0 w) (leb (length sentence) longestText) refl e
       by-tokens s false w e = absurd (not-done BadAreas refl e)
 
       by-sizes : (z : Bool) → t .sizes ≡ z
           → answer o (written 0 area)
-          ≡ cond (z && eqb (length area % tokenWidth) 0) (cond (leb (length sentence) longestText) (cutChars t work (λ cs. answer Done) (written 0 area) (charsOf sentence)) (answer TooLong (written 0 area))) (answer BadAreas (written 0 area))
+          ≡ cond (z && eqb (length area % tokenWidth) 0)
+          (cond (leb (length sentence) longestText) (cutChars t work (λ cs. answer Done) (written 0 area) (charsOf sentence))
+          (answer TooLong (written 0 area))) (answer BadAreas (written 0 area))
           → Begun t work area sentence
       by-sizes true s e = by-tokens s (eqb (length area % tokenWidth) 0) refl e
       by-sizes false s e = absurd (not-done BadAreas refl e)
@@ -190,7 +205,8 @@ pub first-is-shorter : (a b : ℕ) → a ≤ b → a ≡ shorter a b
 first-is-shorter a b h = rw (le-ltb b a h)
 
 -- slice by slice
-pub shortest-found : (a b c d e f v w x y z : ℕ) → v ≡ shorter a b → w ≡ shorter v c → x ≡ shorter w d → y ≡ shorter x e → z ≡ shorter y f → z ≡ shortest a (b ∷ c ∷ d ∷ e ∷ f ∷ [])
+pub shortest-found : (a b c d e f v w x y z : ℕ) → v ≡ shorter a b → w ≡ shorter v c → x ≡ shorter w d → y ≡ shorter x e → z ≡ shorter y f
+    → z ≡ shortest a (b ∷ c ∷ d ∷ e ∷ f ∷ [])
 shortest-found a b c d e f v w x y z ev ew ex ey ez = rw (ez, ey, ex, ew, ev) refl
 
 pub shorter-first : (a b : ℕ) → shorter a b ≤ a

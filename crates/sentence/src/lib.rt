@@ -61,7 +61,8 @@ pub fn begin(
     tokens: usize,
 ) -> Outcome
     ensures { λ r. ⌜ ((area : List ℕ) → length area ≡ tokens
-        → answer r (written 0 area) ≡ cutWith (testedSizes head «root_children» «root_words» keys children words frequencies logarithms) work area (λ cs. answer Done) (was sentence)) ⌝ }
+        → answer r (written 0 area) ≡ cutWith (testedSizes head «root_children» «root_words» keys children words frequencies logarithms) work area
+        (λ cs. answer Done) (was sentence)) ⌝ }
 {
     if !book::is_allowed(
         root_children,

@@ -163,7 +163,8 @@ module _ {rootChildren : List ℕ} {rootWords : List ℤ} {keys children : List 
     by-first : (b : Book)
         → b .trie ≡ tables
         → b .head .records ≡ used
-        → edgesWithin room (walksOf (wordsFrom b) 0 cs) ≡ joined (soFar b) (edgesWithin (room - count) (wordsFrom b at (drop at cs) ∷ walksOf (wordsFrom b) (at + 1) (drop (at + 1) cs)))
+        → edgesWithin room (walksOf (wordsFrom b) 0 cs)
+        ≡ joined (soFar b) (edgesWithin (room - count) (wordsFrom b at (drop at cs) ∷ walksOf (wordsFrom b) (at + 1) (drop (at + 1) cs)))
     by-first b trie in-use =
         now .same b trie in-use
         ∙ ap (λ (ws : List Walked). joined (soFar b) (edgesWithin (room - count) ws)) (first-walk (wordsFrom b) at cs (omega (arith, cs-long)))
@@ -184,7 +185,8 @@ module _ {rootChildren : List ℕ} {rootWords : List ℤ} {keys children : List 
     ends-damaged e b trie in-use =
         let damage = rw e at (walked b trie in-use) in
         by-first b trie in-use
-        ∙ ap (joined (soFar b)) (breaks (room - count) (wordsFrom b at (drop at cs)) (walksOf (wordsFrom b) (at + 1) (drop (at + 1) cs)) (damage .0) (damage .1))
+        ∙ ap (joined (soFar b)) (breaks (room - count) (wordsFrom b at (drop at cs)) (walksOf (wordsFrom b) (at + 1) (drop (at + 1) cs)) (damage .0)
+        (damage .1))
 
     -- it has found places for all its edges
     module _ {to : ℕ} (e : r ≡ Edges to) where
@@ -251,7 +253,8 @@ module _ {rootChildren : List ℕ} {rootWords : List ℤ} {keys children : List 
           rows-more : (b : Book)
               → rowsFrom starts′ ends′ records′ (b .logarithms) 0 (at + 1) ≡ soFar b ++ (edgesFrom ends′ records′ (b .logarithms) count (to - count) ∷ [])
           rows-more b =
-              let kept : rowsFrom starts′ ends′ records′ (b .logarithms) 0 at ≡ soFar b = rows-same _ _ _ _ _ _ _ 0 at (λ k first last. row-kept (b .logarithms) k (omega arith)) in
+              let kept : rowsFrom starts′ ends′ records′ (b .logarithms) 0 at ≡ soFar b =
+              rows-same _ _ _ _ _ _ _ 0 at (λ k first last. row-kept (b .logarithms) k (omega arith)) in
               ap (rowsFrom starts′ ends′ records′ (b .logarithms) 0) (add-one at)
               ∙ rows-one-more starts′ ends′ records′ (b .logarithms) 0 at
               ∙ rw (kept, zero-add at, here-kept, next-start)
@@ -304,7 +307,8 @@ module _ {rootChildren : List ℕ} {rootWords : List ℤ} {keys children : List 
                   → b .trie ≡ tables
                   → b .head .records ≡ used
                   → edgesWithin room (walksOf (wordsFrom b) 0 cs)
-                  ≡ joined (rowsFrom starts′ ends′ records′ (b .logarithms) 0 (at + 1)) (edgesWithin (room - to) (walksOf (wordsFrom b) (at + 1) (drop (at + 1) cs)))
+                  ≡ joined (rowsFrom starts′ ends′ records′ (b .logarithms) 0 (at + 1))
+                  (edgesWithin (room - to) (walksOf (wordsFrom b) (at + 1) (drop (at + 1) cs)))
               one-more b trie in-use =
                   let es = edgesFrom ends′ records′ (b .logarithms) count (to - count) in
                   let ws = walksOf (wordsFrom b) (at + 1) (drop (at + 1) cs) in

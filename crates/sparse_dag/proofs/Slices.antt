@@ -41,7 +41,8 @@ edges-same ends records ends′ records′ logarithms place (suc count) same-end
 
 -- one edge more stands behind the others
 edges-one-more : (ends records : List ℕ) (logarithms : List Float) (place count : ℕ)
-    → edgesFrom ends records logarithms place (suc count) ≡ edgesFrom ends records logarithms place count ++ (edgeAt ends records logarithms (place + count) ∷ [])
+    → edgesFrom ends records logarithms place (suc count)
+    ≡ edgesFrom ends records logarithms place count ++ (edgeAt ends records logarithms (place + count) ∷ [])
 unfolding edgesFrom
 edges-one-more ends records logarithms place zero = rw (add-zero place)
 edges-one-more ends records logarithms place (suc count) =
@@ -96,7 +97,8 @@ rows-same starts ends records starts′ ends′ records′ logarithms i (suc cou
 
 -- one row more stands behind the others
 pub rows-one-more : (starts ends records : List ℕ) (logarithms : List Float) (i count : ℕ)
-    → rowsFrom starts ends records logarithms i (suc count) ≡ rowsFrom starts ends records logarithms i count ++ (edgesAt starts ends records logarithms (i + count) ∷ [])
+    → rowsFrom starts ends records logarithms i (suc count)
+    ≡ rowsFrom starts ends records logarithms i count ++ (edgesAt starts ends records logarithms (i + count) ∷ [])
 unfolding rowsFrom
 rows-one-more starts ends records logarithms i zero = rw (add-zero i)
 rows-one-more starts ends records logarithms i (suc count) =

@@ -34,7 +34,8 @@ use Rattle.sparse_dag.proofs.Slices.{after, after-one, after-ended, aft
 
 -- the edges in the places from `taken` up to `count`, and then what a walk meets, are what the walk from `at` meets
 abbrev Follows : List ℕ → ℕ → ℕ → ℕ → ℕ → List ℕ → List ℕ → Book → Walked → Type 0
-Follows chars n at taken count ends records b w = wordsFrom b at (drop at (take n chars)) ≡ after (edgesFrom ends records (b .logarithms) taken (count - taken)) w
+Follows chars n at taken count ends records b w =
+    wordsFrom b at (drop at (take n chars)) ≡ after (edgesFrom ends records (b .logarithms) taken (count - taken)) w
 
 -- where it stands: at a place, before a character, with so many places taken
 pub record Walking (rootChildren : List ℕ) (rootWords : List ℤ) (keys children : List ℕ) (words : List ℤ) (used : ℕ) (chars : List ℕ)

@@ -37,6 +37,7 @@ WalkedAt b n at room taken walk ends records Damaged = (length (walk .edges) ≤
 -- the same of a whole block: its edges are in the slices, as the route wants them, or the walk was stopped
 abbrev pub WalkedBlock : Book → ℕ → ℕ → List ℕ → List ℕ → List ℕ → List ℕ → Prefixes → Type 0
 WalkedBlock b n room chars starts ends records (Edges count) =
-    (edgesWithin room (walksOf (wordsFrom b) 0 chars) ≡ edges (rowsOf starts ends records (b .logarithms) n)) × EdgesFit starts ends records (length (b .logarithms)) n
+    (edgesWithin room (walksOf (wordsFrom b) 0 chars) ≡ edges (rowsOf starts ends records (b .logarithms) n))
+    × EdgesFit starts ends records (length (b .logarithms)) n
 WalkedBlock b n room chars starts ends records Full = edgesWithin room (walksOf (wordsFrom b) 0 chars) ≡ stopped EdgesFull
 WalkedBlock b n room chars starts ends records Damaged = edgesWithin room (walksOf (wordsFrom b) 0 chars) ≡ stopped Outcome.Damaged

@@ -10,7 +10,7 @@ ghost use lib.ListN.{length, take, drop};
 ghost use Rattle.trie.specs.Trie.{SlotCount, log2};
 ghost use Rattle.trie.specs.Lent.{was, became, trieLent};
 ghost use Rattle.walk.specs.Walk.{EquallyLong};
-ghost use Rattle.book.specs.Returns.{Book, longestText};
+ghost use Rattle.book.specs.Returns.{Book, longestText, mostRecords};
 ghost use Rattle.book.specs.Prefixes.{wordsFrom};
 ghost use Rattle.cuts.specs.Slices.{Characters};
 ghost use Rattle.sparse_dag.specs.Edges.{Kept, WalkedAt, WalkedBlock};
@@ -49,7 +49,7 @@ fn prefixes_at(
     requires { ⌜ EquallyLong (now «root_children») (now «root_words») (now keys) (now children) (now words) ⌝ }
     requires { ⌜ SlotCount (length (now keys)) × (shift ≡ 64 - log2 (length (now keys))) ⌝ }
     requires { ⌜ (at < n) × (n ≤ length (now chars)) × (n ≤ longestText) × Characters n (now chars) ⌝ }
-    requires { ⌜ (taken ≤ room) × (room ≤ length (now «edge_ends»)) × (room ≤ length (now «edge_records»)) × (used ≤ 1048576) ⌝ }
+    requires { ⌜ (taken ≤ room) × (room ≤ length (now «edge_ends»)) × (room ≤ length (now «edge_records»)) × (used ≤ mostRecords) ⌝ }
     ensures { λ r. ⌜ ((b : Book) → b .trie ≡ trieLent «root_children» «root_words» keys children words → b .head .records ≡ used
         → WalkedAt b n at room taken (wordsFrom b at (drop at (take n (was chars)))) (became «edge_ends») (became «edge_records») r) ⌝ }
     ensures { λ _. ⌜ Kept taken (was «edge_ends») (became «edge_ends») × Kept taken (was «edge_records») (became «edge_records») ⌝ }
@@ -108,7 +108,7 @@ pub fn for_each_prefix_at_every_char(
     requires { ⌜ EquallyLong (now «root_children») (now «root_words») (now keys) (now children) (now words) ⌝ }
     requires { ⌜ SlotCount (length (now keys)) × (shift ≡ 64 - log2 (length (now keys))) ⌝ }
     requires { ⌜ (n ≤ length (now chars)) × (n ≤ longestText) × (n < length (now starts)) × Characters n (now chars) ⌝ }
-    requires { ⌜ (room ≤ length (now «edge_ends»)) × (room ≤ length (now «edge_records»)) × (used ≤ 1048576) ⌝ }
+    requires { ⌜ (room ≤ length (now «edge_ends»)) × (room ≤ length (now «edge_records»)) × (used ≤ mostRecords) ⌝ }
     ensures { λ r. ⌜ ((b : Book) → b .trie ≡ trieLent «root_children» «root_words» keys children words → b .head .records ≡ used → used ≤ length (b .logarithms)
         → WalkedBlock b n room (take n (was chars)) (became starts) (became «edge_ends») (became «edge_records») r) ⌝ }
 {

@@ -58,7 +58,8 @@ splitterOf s n = vstruct (vcons (sliceOf s) (vcons (vint w64 n) vnil))
 
 module _ {M : Type 1} (𝓤 : URA M) (H : Heap 𝓤) (A : Atoms 𝓤) (W : Given 𝓤 H A) (κ : Lft) where
   -- a splitter's machine value has the struct's type, in a local
-  pub made-fits : (s : RefT (List ℕ)) (n : ℕ) → Is (Bytes κ) s (sliceOf s ∷ []) → n < 2 ^ 64 → Holds (hasTy (T′.mir erased) (splitterOf s n)) × WT (splitterOf s n)
+  pub made-fits : (s : RefT (List ℕ)) (n : ℕ) → Is (Bytes κ) s (sliceOf s ∷ []) → n < 2 ^ 64
+      → Holds (hasTy (T′.mir erased) (splitterOf s n)) × WT (splitterOf s n)
   made-fits s n p fits = (tt, (shr-slice-lawful 𝓤 H A W (named 0) κ u8 .typed s (sliceOf s ∷ []) p .0 .1, (record { fits = fits }, tt)))
 
   -- a splitter is made of what a slice owns, and let go for it
@@ -73,5 +74,6 @@ module _ {M : Type 1} (𝓤 : URA M) (H : Heap 𝓤) (A : Atoms 𝓤) (W : Given
       → ent 𝓤 (sem 𝓤 H A (Splitter (κ, tt) .own (record { text = s; pos = n }) (splitterOf s n ∷ []))) (sem 𝓤 H A (Bytes κ .own s (sliceOf s ∷ [])))
   let-go s n =
       qed W (‵ (Splitter (κ, tt) .own (record { text = s; pos = n }) (splitterOf s n ∷ [])) ∷ []) ∵
-      use1 W (given (splitterOf s n ∷ [] ≡ splitterOf s n ∷ []) (‵ (all-own (Shape (κ, tt) .parts) (shaped (κ, tt)) (s, (n, tt))))) (own-open 𝓤 H A W (Shape (κ, tt)) (shaped (κ, tt)) (s, (n, tt)) (splitterOf s n)) $
+      use1 W (given (splitterOf s n ∷ [] ≡ splitterOf s n ∷ []) (‵ (all-own (Shape (κ, tt) .parts) (shaped (κ, tt)) (s, (n, tt)))))
+      (own-open 𝓤 H A W (Shape (κ, tt)) (shaped (κ, tt)) (s, (n, tt)) (splitterOf s n)) $
       learn ! (λ _. fsplit ! $ keep ! (0 ∷ []) $ done !)

@@ -60,20 +60,26 @@ module _ (class : ℕ → Bool) (s : List ℕ) (at : ℕ) (r : Run) (chars offse
   -- its block, and then the rest
   module _ (one : Base → Block → Written → CutAnswer) (base : ℕ) (w : Written) where
     block-first : cutBlocks one (baseAt base at) (blocksOf class (textFrom s at)) w
-        ≡ andThen (one (baseAt base at) (blockOf (r .matched) (take (r .chars) chars)) w) (cutBlocks one (baseAt (base + r .chars) (r .end)) (blocksOf class (textFrom s (r .end))))
+        ≡ andThen (one (baseAt base at) (blockOf (r .matched) (take (r .chars) chars)) w)
+        (cutBlocks one (baseAt (base + r .chars) (r .end)) (blocksOf class (textFrom s (r .end))))
     unfolding cutBlocks
     block-first =
         ap (λ (bs : List Block). cutBlocks one (baseAt base at) bs w) (run .block)
-        ∙ ap (λ (k : ℕ). andThen (one (baseAt base at) (blockOf (r .matched) (take (r .chars) chars)) w) (cutBlocks one (baseAt (base + k) (at + byteLength (take (r .chars) chars))) (blocksOf class (textFrom s (r .end))))) run-length
-        ∙ ap (λ (k : ℕ). andThen (one (baseAt base at) (blockOf (r .matched) (take (r .chars) chars)) w) (cutBlocks one (baseAt (base + r .chars) k) (blocksOf class (textFrom s (r .end))))) (sym (run .bytes))
+        ∙ ap (λ (k : ℕ). andThen (one (baseAt base at) (blockOf (r .matched) (take (r .chars) chars)) w)
+        (cutBlocks one (baseAt (base + k) (at + byteLength (take (r .chars) chars))) (blocksOf class (textFrom s (r .end))))) run-length
+        ∙ ap (λ (k : ℕ). andThen (one (baseAt base at) (blockOf (r .matched) (take (r .chars) chars)) w)
+        (cutBlocks one (baseAt (base + r .chars) k) (blocksOf class (textFrom s (r .end))))) (sym (run .bytes))
 
     module _ (a : CutAnswer) (cut : a ≡ one (baseAt base at) (blockOf (r .matched) (take (r .chars) chars)) w) where
       pub block-stops : isDone (a .outcome) ≡ false → a ≡ cutBlocks one (baseAt base at) (blocksOf class (textFrom s at)) w
-      block-stops other = sym (block-first ∙ rw (← cut) (stops a (cutBlocks one (baseAt (base + r .chars) (r .end)) (blocksOf class (textFrom s (r .end)))) other))
+      block-stops other = sym (block-first ∙ rw (← cut)
+          (stops a (cutBlocks one (baseAt (base + r .chars) (r .end)) (blocksOf class (textFrom s (r .end)))) other))
 
       pub block-goes-on : isDone (a .outcome) ≡ true
-          → cutBlocks one (baseAt (base + r .chars) (r .end)) (blocksOf class (textFrom s (r .end))) (a .written) ≡ cutBlocks one (baseAt base at) (blocksOf class (textFrom s at)) w
-      block-goes-on done = sym (block-first ∙ rw (← cut) (goes-on a (cutBlocks one (baseAt (base + r .chars) (r .end)) (blocksOf class (textFrom s (r .end)))) done))
+          → cutBlocks one (baseAt (base + r .chars) (r .end)) (blocksOf class (textFrom s (r .end))) (a .written)
+          ≡ cutBlocks one (baseAt base at) (blocksOf class (textFrom s at)) w
+      block-goes-on done = sym (block-first ∙ rw (← cut)
+          (goes-on a (cutBlocks one (baseAt (base + r .chars) (r .end)) (blocksOf class (textFrom s (r .end)))) done))
 
 -- at the sentence's end no block is left
 pub no-block-left : (class : ℕ → Bool) (s : List ℕ) (at : ℕ) → length s ≤ at → (one : Base → Block → Written → CutAnswer) (base : Base) (w : Written)

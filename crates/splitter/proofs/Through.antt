@@ -38,7 +38,8 @@ module _ (class : ℕ → Bool) (s : List ℕ) (at : ℕ) where
   malformed-not end well-formed e = rw (from-malformed s end e) at well-formed
 
   -- what is recorded so far is the run, or its next character is of the run's kind
-  module _ (matched : Bool) (n end : ℕ) (chars offsets : List ℕ) (so-far : Recording class s at matched n end chars offsets) (some-read : 1 ≤ n) (forward : at + n ≤ end) where
+  module _ (matched : Bool) (n end : ℕ) (chars offsets : List ℕ) (so-far : Recording class s at matched n end chars offsets) (some-read : 1 ≤ n)
+      (forward : at + n ≤ end) where
     stop : EndsBefore class matched (textFrom s end) → ARun
     stop ends = (_, _, _, run-recorded class s at matched n end chars offsets so-far ends some-read (omega arith))
 
@@ -55,11 +56,13 @@ module _ (class : ℕ → Bool) (s : List ℕ) (at : ℕ) where
         reads (Char c w) e = takes c w e (not (Bool·beq (class c) matched)) refl
 
   -- and so on, with the bytes that are left
-  go-on : (left : ℕ) (matched : Bool) (n end : ℕ) (chars offsets : List ℕ) → length s < end + left → 1 ≤ n → at + n ≤ end → Recording class s at matched n end chars offsets → ARun
+  go-on : (left : ℕ) (matched : Bool) (n end : ℕ) (chars offsets : List ℕ) → length s < end + left → 1 ≤ n → at + n ≤ end
+      → Recording class s at matched n end chars offsets → ARun
   go-on zero matched n end chars offsets enough some-read forward so-far = absurd (omega (arith, so-far .inside-text))
   go-on (suc left) matched n end chars offsets enough some-read forward so-far =
       run-or-more matched n end chars offsets so-far some-read forward
-      (λ c w e same. go-on left matched (n + 1) (end + w) _ _ (omega (arith, inside s end c w e)) (omega arith) (omega (arith, inside s end c w e)) (one-more-read class s at matched n end chars offsets so-far c w e same))
+      (λ c w e same. go-on left matched (n + 1) (end + w) _ _ (omega (arith, inside s end c w e)) (omega arith) (omega (arith, inside s end c w e))
+      (one-more-read class s at matched n end chars offsets so-far c w e same))
 
   pub a-run : at < length s → IsSome (charsFrom s at) → ARun
   a-run within well-formed = reads (characterAt s at) refl
@@ -88,7 +91,8 @@ module _ (class : CharacterClass) where
   none-or-more d more false none = ([], ended none)
   none-or-more d more true one = more one
 
-  turns : (left : ℕ) (d : SplitByCharacterClass) → length (now (d .text)) < d .pos + left → d .pos ≤ length (now (d .text)) → IsSome (charsFrom (now (d .text)) (d .pos)) → Turns d
+  turns : (left : ℕ) (d : SplitByCharacterClass) → length (now (d .text)) < d .pos + left → d .pos ≤ length (now (d .text))
+      → IsSome (charsFrom (now (d .text)) (d .pos)) → Turns d
   turns zero d enough within well-formed = absurd (omega arith)
   turns (suc left) d enough within well-formed =
       none-or-more d

@@ -15,11 +15,13 @@ use Rattle.splitter.specs.Turns.{InTurn, ended, turned, begun, BlocksInT
 use Rattle.splitter.proofs.Recordings.{text-end}
 use Rattle.splitter.proofs.Sentences.{text-start}
 
-blocks-left : (class : CharacterClass) (d : SplitByCharacterClass) (bs : List Block) → InTurn class d bs → bs ≡ blocksOf (classOf class) (textFrom (now (d .text)) (d .pos))
+blocks-left : (class : CharacterClass) (d : SplitByCharacterClass) (bs : List Block) → InTurn class d bs
+    → bs ≡ blocksOf (classOf class) (textFrom (now (d .text)) (d .pos))
 unfolding blocksOf
 blocks-left class d [] (ended no-run) = rw (text-end (now (d .text)) (d .pos) (ltb-false _ _ no-run)) refl
 blocks-left class d (b ∷ bs) (turned run chars offsets a-run recorded next) =
     ap (λ (rest : List Block). blockOf (run .matched) (take (run .chars) chars) ∷ rest) (blocks-left class _ bs next) ∙ sym (recorded .block)
 
 pub blocks-in-turn : BlocksInTurn
-blocks-in-turn class text cs bs well-formed turns = blocks-left class (begun text) bs turns ∙ ap (blocksOf (classOf class)) (text-start (now text) cs well-formed)
+blocks-in-turn class text cs bs well-formed turns = blocks-left class (begun text) bs turns
+    ∙ ap (blocksOf (classOf class)) (text-start (now text) cs well-formed)

@@ -1,15 +1,12 @@
--- Where a run ends: the loops of `joining_end` and of `block::letters_end`. What is kept at each turn is `Running`: all positions passed are in the run. A position
+-- Where a run ends: the loops of `joining_end`, `letters_end` and `next_part`. What is kept at each turn is `Running`: all positions passed are in the
+-- run. A position
 -- that is in the run is passed, and at the first that is not, or at the block's end, the run is maximal.
 -- Assumes nothing.
 use Prim.Native.Nat.{ℕ, _+_, _≤_, _<_}
-use mathlib.Core.Bool.{Bool, true, false, not}
-use mathlib.Core.List.{List}
-use mathlib.Core.Path.{_≡_, sym, _∙_, subst}
+use mathlib.Core.Bool.{Bool, true, false}
+use mathlib.Core.Path.{_≡_, subst}
 use native.Mathlib.Nat.{le-refl}
 use native.Mathlib.Omega.{arith}
-use borrow.Author.Tests.{not-true, not-false}
-use lib.ListN.{getD}
-use Rattle.classes.specs.Tokens.{joins}
 use Rattle.score.proofs.Tests.{by-leb}
 use Rattle.tokens.specs.Runs.{MaximalRun}
 
@@ -38,16 +35,3 @@ module _ {holds : ℕ → Bool} {n from y : ℕ} (here : Running holds n from y)
 
   pub run-ends : n ≤ y → MaximalRun holds n from y
   run-ends h = record { forward = here .forward; inside = here .inside; all = here .all; no-more = λ g. absurd (omega arith) }
-
--- ---- characters that join
-
-abbrev pub joinsAt : List ℕ → ℕ → Bool
-joinsAt chars i = joins (getD chars i 0)
-
--- what `is_skip_cut_all` answers with r
-module _ (c : ℕ) (r : Bool) (class : r ≡ not (joins c)) where
-  pub stands-singly : r ≡ true → joins c ≡ false
-  stands-singly e = not-true (joins c) (sym class ∙ e)
-
-  pub joins-on : r ≡ false → joins c ≡ true
-  joins-on e = not-false (joins c) (sym class ∙ e)

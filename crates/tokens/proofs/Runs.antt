@@ -56,7 +56,8 @@ module _ {n : ℕ} {joining : Span → Bool} {steps : ℕ → List Span} {end : 
 
   pieces-next : (x : ℕ) → x < n → pieces x ≡ beforePieces (span x (end x)) (holds x) (pieces (end x))
   unfolding pieces piecesOf
-  pieces-next x h = ap (piecesOf joining) (block .next x h) ∙ ap (λ (t : Bool). beforePieces (span x (end x)) t (piecesOf joining (steps (end x)))) (block .joins x h)
+  pieces-next x h = ap (piecesOf joining) (block .next x h)
+      ∙ ap (λ (t : Bool). beforePieces (span x (end x)) t (piecesOf joining (steps (end x)))) (block .joins x h)
 
   first-joins : (x : ℕ) → x < n → firstJoins (pieces x) ≡ holds x
   first-joins x h = ap firstJoins (pieces-next x h) ∙ before-joins (span x (end x)) (holds x) (pieces (end x))

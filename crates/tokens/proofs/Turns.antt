@@ -1,11 +1,11 @@
--- A turn of the loops of `cut_unmatched`, `cut_all_unmatched` and `block::cut_route`, which are alike: some spans are written, and the rest of the block's
+-- A turn of the loops of `cut_unmatched`, `cut_all_unmatched` and `cut_route::cut_route`, which are alike: some spans are written, and the rest of the block's
 -- spans start where they end. What is kept at each turn is `Putting`: the spans from x on, put after what is written so far, come to what all spans of
 -- the block come to, wherever the block stands.
 -- Assumes nothing.
 use Prim.Native.Nat.{ℕ, _≤_, _<_}
 use mathlib.Core.Bool.{true, false}
 use mathlib.Core.List.{List, [], _∷_, _++_}
-use mathlib.Core.Path.{_≡_, refl, sym, ap, _∙_}
+use mathlib.Core.Path.{_≡_, refl, ap, _∙_}
 use native.Mathlib.Omega.{arith}
 use lib.ListN.{length}
 use Rattle.book.specs.declared.Outcome.the-variants.{Done}
@@ -13,8 +13,8 @@ use Rattle.book.specs.Returns.{isDone}
 use Rattle.cuts.specs.declared.Cut.{Cut}
 use Rattle.cuts.specs.Slices.{Placed}
 use Rattle.cuts.specs.Tokens.{Span, span, written}
-use Rattle.cuts.specs.Cuts.{CutAnswer, answer, cutAnswer, andThen, Base, putSpans}
-use Rattle.cuts.proofs.Sequence.{goes-on, stops, put-none, put-both}
+use Rattle.cuts.specs.Cuts.{CutAnswer, answer, cutAnswer, Base, putSpans}
+use Rattle.cuts.proofs.Sequence.{all-put, stops-there, goes-on-there}
 
 -- a turn from x goes to y: these are the first spans left, and the others start there
 pub record Turning (n : ℕ) (rest : ℕ → List Span) (x y : ℕ) (these : List Span) : Type 0 where
@@ -45,32 +45,25 @@ module _ (chars offsets : List ℕ) (n base : ℕ) (rest : ℕ → List Span) (a
     -- no span is left
     pub ends : rest x ≡ [] → All (answer Done (written count area))
     ends none spans all place known =
-        sym (put-none place chars (written count area))
-        ∙ ap (putSpans place chars (written count area)) (sym none)
-        ∙ here .same place known
+        all-put place chars (written count area) (here .same place known) none
         ∙ ap (putSpans place chars (written count₀ area₀)) all
 
     -- some spans, which a call answers with r
     module _ {y : ℕ} {these : List Span} (turn : Turning n rest x y these) (r : Cut) (after : List ℕ)
         (put : (place : Base) → Placed place base chars offsets → cutAnswer r after ≡ putSpans place chars (written count area) these) where
-      with-rest : (place : Base) → Placed place base chars offsets
-          → andThen (cutAnswer r after) (λ v. putSpans place chars v (rest y))
-          ≡ putSpans place chars (written count₀ area₀) (rest 0)
-      with-rest place known =
-          ap (λ (a : CutAnswer). andThen a (λ v. putSpans place chars v (rest y))) (put place known)
-          ∙ sym (put-both place chars (written count area) these (rest y))
-          ∙ ap (putSpans place chars (written count area)) (sym (turn .first))
-          ∙ here .same place known
-
       pub refused : isDone (r .outcome) ≡ false → All (cutAnswer r after)
       refused e spans all place known =
-          sym (stops (cutAnswer r after) (λ v. putSpans place chars v (rest y)) e)
-          ∙ with-rest place known
+          stops-there place chars (written count area) (here .same place known) these (rest y) (turn .first) r after (put place known) e
           ∙ ap (putSpans place chars (written count₀ area₀)) all
 
       pub one-more : isDone (r .outcome) ≡ true → length after ≡ length area → Putting after (r .count) y
       one-more e kept =
-          record { inside = turn .inside; long = kept ∙ here .long; same = λ place known. sym (goes-on (cutAnswer r after) (λ v. putSpans place chars v (rest y)) e) ∙ with-rest place known }
+          record {
+            inside = turn .inside;
+            long = kept ∙ here .long;
+            same = λ place known.
+                goes-on-there place chars (written count area) (here .same place known) these (rest y) (turn .first) r after (put place known) e;
+          }
 
 -- what `emit_span` answers of a span that ends at y, of a block of n characters
 pub emitted-in : (chars offsets : List ℕ) (n base x y count : ℕ) (area : List ℕ) (r : Cut) (after : List ℕ) → length chars ≡ n → y ≤ n

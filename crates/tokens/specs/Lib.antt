@@ -1,2 +1,2 @@
--- The definitions that the contracts of `tokens` cite.
+-- The definitions that contracts over `tokens` cite.
 pub mod Runs

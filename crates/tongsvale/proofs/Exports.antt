@@ -20,8 +20,10 @@ use Rattle.book.specs.Enter.{LoadAnswer, AddAnswer, loadOf, addOf}
 use Rattle.book.specs.Numbers.{foundReturns, lookupReturns}
 use Rattle.cuts.specs.declared.TokenizeMode.{TokenizeMode}
 use Rattle.cuts.specs.Cuts.{CutAnswer, testedBook, begins, cutOf, cutForSearchOf, tokenizeOf, cutAllOf}
-use Rattle.numbers.specs.Numbers.{headLength, headOf, headNumbers, searchMode, isMode, modeOf}
-use Rattle.tongsvale.specs.Exports.{badAreas, exported, preparedAs, prepareExport, loadExport, addExport, foundNumbers, foundAs, lookupExport, cutNumbers, cutWhere, cutExport, cutForSearchExport, tokenizeExport, cutAllExport, cutBegins}
+use Rattle.numbers.specs.declared.FoundNumbers.{FoundNumbers}
+use Rattle.numbers.specs.Numbers.{headLength, headOf, headNumbers, foundNumbers, foundAs, searchMode, isMode, modeOf}
+use Rattle.tongsvale.specs.Exports.{badAreas, exported, preparedAs, prepareExport, loadExport, addExport, lookupExport, cutNumbers, cutWhere, cutExport}
+use Rattle.tongsvale.specs.Exports.{cutForSearchExport, tokenizeExport, cutAllExport, cutBegins}
 
 module _ (h : List ℕ) (t : CharTrie) (f : List ℕ) (l : List Float) where
   -- ---- a head of another length
@@ -50,35 +52,42 @@ module _ (h : List ℕ) (t : CharTrie) (f : List ℕ) (l : List Float) where
     unfolding prepareExport
     prepare-by a e = rw (eq-eqb (length h) headLength four, ← e)
 
-    pub prepare-ready : (p : Prepared) (t′ : CharTrie) (f′ : List ℕ) (l′ : List Float) → prepareAnswer p t′ f′ l′ ≡ prepareOf t f l → (head : Head) → p ≡ Ready head
+    pub prepare-ready : (p : Prepared) (t′ : CharTrie) (f′ : List ℕ) (l′ : List Float) → prepareAnswer p t′ f′ l′ ≡ prepareOf t f l → (head : Head)
+        → p ≡ Ready head
         → (h′ : List ℕ) → h′ ≡ headNumbers head → exported 0 0 h′ t′ f′ l′ ≡ prepareExport h t f l
-    prepare-ready p t′ f′ l′ e head ready h′ written = rw written (ap (λ (x : Prepared). preparedAs h (prepareAnswer x t′ f′ l′)) (sym ready) ∙ prepare-by (prepareAnswer p t′ f′ l′) e)
+    prepare-ready p t′ f′ l′ e head ready h′ written =
+        rw written (ap (λ (x : Prepared). preparedAs h (prepareAnswer x t′ f′ l′)) (sym ready) ∙ prepare-by (prepareAnswer p t′ f′ l′) e)
 
-    pub prepare-not : (p : Prepared) (t′ : CharTrie) (f′ : List ℕ) (l′ : List Float) → prepareAnswer p t′ f′ l′ ≡ prepareOf t f l → (o : Outcome) → p ≡ Refused o
+    pub prepare-not : (p : Prepared) (t′ : CharTrie) (f′ : List ℕ) (l′ : List Float) → prepareAnswer p t′ f′ l′ ≡ prepareOf t f l → (o : Outcome)
+        → p ≡ Refused o
         → (n : ℕ) → n ≡ numberOf o → exported n 0 h t′ f′ l′ ≡ prepareExport h t f l
-    prepare-not p t′ f′ l′ e o told n number = rw number (ap (λ (x : Prepared). preparedAs h (prepareAnswer x t′ f′ l′)) (sym told) ∙ prepare-by (prepareAnswer p t′ f′ l′) e)
+    prepare-not p t′ f′ l′ e o told n number = rw number
+        (ap (λ (x : Prepared). preparedAs h (prepareAnswer x t′ f′ l′)) (sym told) ∙ prepare-by (prepareAnswer p t′ f′ l′) e)
 
     -- with the head that was read from it
     module _ (v : Head) (read : v ≡ headOf h) where
-      pub loaded-by : (text : List ℕ) (a : LoadAnswer) → a ≡ loadOf (bookOf v t f l) text → (n : ℕ) → n ≡ numberOf (a .outcome) → (h′ : List ℕ) → h′ ≡ headNumbers (a .book .head)
+      pub loaded-by : (text : List ℕ) (a : LoadAnswer) → a ≡ loadOf (bookOf v t f l) text → (n : ℕ) → n ≡ numberOf (a .outcome) → (h′ : List ℕ)
+          → h′ ≡ headNumbers (a .book .head)
           → exported n (a .line) h′ (a .book .trie) (a .book .frequencies) (a .book .logarithms) ≡ loadExport h t f l text
       unfolding loadExport
       loaded-by text a e n number h′ written = rw (number, written, eq-eqb (length h) headLength four, ← read, ← e)
 
-      pub added-by : (word : List ℕ) (frequency : ℕ) (a : AddAnswer) → a ≡ addOf (bookOf v t f l) word frequency → (n : ℕ) → n ≡ numberOf (a .outcome) → (h′ : List ℕ) → h′ ≡ headNumbers (a .book .head)
+      pub added-by : (word : List ℕ) (frequency : ℕ) (a : AddAnswer) → a ≡ addOf (bookOf v t f l) word frequency → (n : ℕ) → n ≡ numberOf (a .outcome)
+          → (h′ : List ℕ) → h′ ≡ headNumbers (a .book .head)
           → exported n (a .frequency) h′ (a .book .trie) (a .book .frequencies) (a .book .logarithms) ≡ addExport h t f l word frequency
       unfolding addExport
       added-by word frequency a e n number h′ written = rw (number, written, eq-eqb (length h) headLength four, ← read, ← e)
 
       pub found-by : (word : List ℕ) (found : Found) → foundReturns found ≡ lookupReturns (bookOf v t f l) word
-          → {case : Found} → found ≡ case → foundAs (foundReturns case) ≡ lookupExport h t f l word
+          → (x : FoundNumbers) → x ≡ foundAs (foundReturns found) → x ≡ lookupExport h t f l word
       unfolding lookupExport
-      found-by word found e {case} is = ap (λ (x : Found). foundAs (foundReturns x)) (sym is) ∙ ap foundAs e ∙ rw (eq-eqb (length h) headLength four, ← read)
+      found-by word found e x is = is ∙ ap foundAs e ∙ rw (eq-eqb (length h) headLength four, ← read)
 
 -- ---- the cuts
 
 -- head or mode are none
-refused-by : (such : Bool) (area : List ℕ) (a : CutAnswer) (n count : ℕ) → such ≡ false → n ≡ badAreas → count ≡ 0 → cutNumbers n count area ≡ cutWhere such area a
+refused-by : (such : Bool) (area : List ℕ) (a : CutAnswer) (n count : ℕ) → such ≡ false → n ≡ badAreas → count ≡ 0
+    → cutNumbers n count area ≡ cutWhere such area a
 refused-by such area a n count none number zero = rw (none, number, zero)
 
 -- the call's answer, with the number and the count that are returned
@@ -91,22 +100,27 @@ module _ (h : List ℕ) (t : CharTrie) (f : List ℕ) (l : List Float) where
     module _ (other : length h ≡ headLength → ⊥) where
       pub cut-refused : (room : ℕ) → cutNumbers n count area ≡ cutExport h t f l work room area sentence
       unfolding cutExport
-      cut-refused room = refused-by (eqb (length h) headLength) area (cutOf (bookOf (headOf h) t f l) work room area sentence) n count (ne-eqb (length h) headLength other) number zero
+      cut-refused room = refused-by (eqb (length h) headLength) area (cutOf (bookOf (headOf h) t f l) work room area sentence) n count
+          (ne-eqb (length h) headLength other) number zero
 
       pub cut-for-search-refused : (room : ℕ) → cutNumbers n count area ≡ cutForSearchExport h t f l work room area sentence
       unfolding cutForSearchExport
-      cut-for-search-refused room = refused-by (eqb (length h) headLength) area (cutForSearchOf (bookOf (headOf h) t f l) work room area sentence) n count (ne-eqb (length h) headLength other) number zero
+      cut-for-search-refused room = refused-by (eqb (length h) headLength) area (cutForSearchOf (bookOf (headOf h) t f l) work room area sentence)
+          n count (ne-eqb (length h) headLength other) number zero
 
       pub tokenize-refused : (room mode : ℕ) → cutNumbers n count area ≡ tokenizeExport h t f l mode work room area sentence
       unfolding tokenizeExport
       tokenize-refused room mode =
-          refused-by (eqb (length h) headLength && isMode mode) area (tokenizeOf (modeOf mode) (bookOf (headOf h) t f l) work room area sentence) n count (ap (λ (b : Bool). b && isMode mode) (ne-eqb (length h) headLength other)) number zero
+          refused-by (eqb (length h) headLength && isMode mode) area (tokenizeOf (modeOf mode) (bookOf (headOf h) t f l) work room area sentence)
+          n count (ap (λ (b : Bool). b && isMode mode) (ne-eqb (length h) headLength other)) number zero
 
       pub cut-all-refused : cutNumbers n count area ≡ cutAllExport h t f l work area sentence
       unfolding cutAllExport
-      cut-all-refused = refused-by (eqb (length h) headLength) area (cutAllOf (bookOf (headOf h) t f l) work area sentence) n count (ne-eqb (length h) headLength other) number zero
+      cut-all-refused = refused-by (eqb (length h) headLength) area (cutAllOf (bookOf (headOf h) t f l) work area sentence) n count
+          (ne-eqb (length h) headLength other) number zero
 
-    pub mode-refused : length h ≡ headLength → (room mode : ℕ) → searchMode < mode → cutNumbers n count area ≡ tokenizeExport h t f l mode work room area sentence
+    pub mode-refused : length h ≡ headLength → (room mode : ℕ) → searchMode < mode
+        → cutNumbers n count area ≡ tokenizeExport h t f l mode work room area sentence
     unfolding tokenizeExport
     mode-refused four room mode beyond =
         refused-by (eqb (length h) headLength && isMode mode) area (tokenizeOf (modeOf mode) (bookOf (headOf h) t f l) work room area sentence) n count
@@ -121,14 +135,16 @@ module _ (h : List ℕ) (t : CharTrie) (f : List ℕ) (l : List Float) where
       cut-by room e n count number counted =
           answered-by (eqb (length h) headLength) area a n count (eq-eqb (length h) headLength four) number counted ∙ rw (← read, ← e)
 
-      pub cut-for-search-by : (room : ℕ) → a ≡ cutForSearchOf (bookOf v t f l) work room area sentence → (n count : ℕ) → n ≡ numberOf (a .outcome) → count ≡ a .written .count
+      pub cut-for-search-by : (room : ℕ) → a ≡ cutForSearchOf (bookOf v t f l) work room area sentence → (n count : ℕ) → n ≡ numberOf (a .outcome)
+          → count ≡ a .written .count
           → cutNumbers n count (a .written .area) ≡ cutForSearchExport h t f l work room area sentence
       unfolding cutForSearchExport
       cut-for-search-by room e n count number counted =
           answered-by (eqb (length h) headLength) area a n count (eq-eqb (length h) headLength four) number counted ∙ rw (← read, ← e)
 
       pub tokenize-by : (room mode : ℕ) → mode ≤ searchMode → (m : TokenizeMode) → m ≡ modeOf mode → a ≡ tokenizeOf m (bookOf v t f l) work room area sentence
-          → (n count : ℕ) → n ≡ numberOf (a .outcome) → count ≡ a .written .count → cutNumbers n count (a .written .area) ≡ tokenizeExport h t f l mode work room area sentence
+          → (n count : ℕ) → n ≡ numberOf (a .outcome) → count ≡ a .written .count
+          → cutNumbers n count (a .written .area) ≡ tokenizeExport h t f l mode work room area sentence
       unfolding tokenizeExport
       tokenize-by room mode among m is e n count number counted =
           answered-by (eqb (length h) headLength && isMode mode) area a n count
@@ -148,5 +164,6 @@ module _ (h : List ℕ) (t : CharTrie) (f : List ℕ) (l : List Float) where
         ∙ sym (ap (λ (b : Bool). b && begins (testedBook (bookOf (headOf h) t f l)) work area sentence) (eq-eqb (length h) headLength four))
         ∙ e
 
-    pub not-begun-by : (mode : ℕ) → mode ≤ searchMode → (isMode mode && cutBegins h t f l work area sentence) ≡ false → begins (testedBook (bookOf v t f l)) work area sentence ≡ false
+    pub not-begun-by : (mode : ℕ) → mode ≤ searchMode → (isMode mode && cutBegins h t f l work area sentence) ≡ false
+        → begins (testedBook (bookOf v t f l)) work area sentence ≡ false
     not-begun-by mode among e = not-begun (sym (ap (λ (b : Bool). b && cutBegins h t f l work area sentence) (le-leb mode searchMode among)) ∙ e)

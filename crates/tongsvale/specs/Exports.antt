@@ -13,25 +13,14 @@ use Rattle.book.specs.declared.Prepared.the-variants.{Ready, Refused}
 use Rattle.book.specs.Areas.{bookOf}
 use Rattle.book.specs.Returns.{Book, numberOf, PrepareAnswer, prepareOf}
 use Rattle.book.specs.Enter.{LoadAnswer, AddAnswer, loadOf, addOf}
-use Rattle.book.specs.Numbers.{Beside, value, absent, nothing, Returned, preparedReturns, loadedReturns, addedReturns, lookupReturns}
+use Rattle.book.specs.Numbers.{Returned, preparedReturns, loadedReturns, addedReturns, lookupReturns}
 use Rattle.cuts.specs.Cuts.{CutAnswer, testedBook, begins, cutOf, cutForSearchOf, tokenizeOf, cutAllOf}
-use Rattle.numbers.specs.Numbers.{headLength, headOf, headNumbers, isMode, modeOf}
+use Rattle.numbers.specs.declared.FoundNumbers.{FoundNumbers}
+use Rattle.numbers.specs.Numbers.{headLength, headOf, headNumbers, valueOf, foundNumbers, foundAs, isMode, modeOf}
 
 -- a head of another length is refused
 abbrev pub badAreas : ℕ
 badAreas = 1
-
--- ---- what is returned beside the number: whether there is a value (1 or 0), and the value, 0 where there is none
-
-abbrev pub hasValue : Beside → ℕ
-hasValue (value v) = 1
-hasValue absent = 0
-hasValue nothing = 0
-
-abbrev pub valueOf : Beside → ℕ
-valueOf (value v) = v
-valueOf absent = 0
-valueOf nothing = 0
 
 -- ---- calls that write a book: the number, the value, and the areas afterwards
 
@@ -76,18 +65,7 @@ addedAs a = withBook (addedReturns (a .outcome) (a .frequency)) (a .book)
 unfoldable pub addExport : List ℕ → CharTrie → List ℕ → List Float → List ℕ → ℕ → Exported
 addExport h t f l word frequency = cond (eqb (length h) headLength) (addedAs (addOf (bookOf (headOf h) t f l) word frequency)) (exported badAreas 0 h t f l)
 
--- ---- lookup: the number, whether the word is held (1 or 0), and its frequency
-
-pub record FoundNumbers : Type 0 where
-  pub number : ℕ
-  pub held : ℕ
-  pub frequency : ℕ
-
-abbrev pub foundNumbers : ℕ → ℕ → ℕ → FoundNumbers
-foundNumbers n h f = record { number = n; held = h; frequency = f }
-
-abbrev pub foundAs : Returned → FoundNumbers
-foundAs r = foundNumbers (r .number) (hasValue (r .beside)) (valueOf (r .beside))
+-- ---- lookup
 
 unfoldable pub lookupExport : List ℕ → CharTrie → List ℕ → List Float → List ℕ → FoundNumbers
 lookupExport h t f l word = cond (eqb (length h) headLength) (foundAs (lookupReturns (bookOf (headOf h) t f l) word)) (foundNumbers badAreas 0 0)

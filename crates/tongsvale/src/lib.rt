@@ -8,11 +8,11 @@ ghost use mathlib.Core.Bool.{false, _&&_};
 ghost use Rattle.trie.specs.Lent.{was, became, trieLent, trieLeft};
 ghost use Rattle.book.specs.Returns.{numberOf};
 ghost use Rattle.cuts.specs.Slices.{Unchanged};
-ghost use Rattle.tokenize.specs.Areas as CutAreas;
+ghost use Rattle.cut_sentence.specs.Areas as CutAreas;
 ghost use Rattle.cut_all.specs.Areas as CutAllAreas;
-ghost use Rattle.numbers.specs.Numbers.{isMode};
-ghost use Rattle.tongsvale.specs.Exports.{exported, prepareExport, loadExport, addExport, foundNumbers, lookupExport, badAreas, cutNumbers, cutExport, cutForSearchExport, tokenizeExport, cutAllExport, cutBegins};
-use book::Found;
+ghost use Rattle.numbers.specs.Numbers.{foundNumbers, isMode};
+ghost use Rattle.tongsvale.specs.Exports.{exported, prepareExport, loadExport, addExport, lookupExport, badAreas, cutNumbers, cutExport};
+ghost use Rattle.tongsvale.specs.Exports.{cutForSearchExport, tokenizeExport, cutAllExport, cutBegins};
 use book::Outcome;
 use book::Prepared;
 use cuts::Cut;
@@ -79,7 +79,8 @@ pub extern "C" fn tongsvale_prepare(
     frequencies: &mut [u32],
     logarithms: &mut [f64],
 ) -> u32
-    ensures { λ r. ⌜ exported r 0 (became head) (trieLeft «root_children» «root_words» keys children words) (became frequencies) (became logarithms) ≡ prepareExport (was head) (trieLent «root_children» «root_words» keys children words) (was frequencies) (was logarithms) ⌝ }
+    ensures { λ r. ⌜ exported r 0 (became head) (trieLeft «root_children» «root_words» keys children words) (became frequencies) (became logarithms)
+        ≡ prepareExport (was head) (trieLent «root_children» «root_words» keys children words) (was frequencies) (was logarithms) ⌝ }
 {
     if head.len() != numbers::HEAD_LENGTH {
         return book::number_of(Outcome::BadAreas);
@@ -114,7 +115,9 @@ pub extern "C" fn tongsvale_load(
     logarithms: &mut [f64],
     text: &[u8],
 ) -> TongsvaleLoaded
-    ensures { λ r. ⌜ exported (r .number) (r .line) (became head) (trieLeft «root_children» «root_words» keys children words) (became frequencies) (became logarithms) ≡ loadExport (was head) (trieLent «root_children» «root_words» keys children words) (was frequencies) (was logarithms) (was text) ⌝ }
+    ensures { λ r. ⌜ exported (r .number) (r .line) (became head) (trieLeft «root_children» «root_words» keys children words) (became frequencies)
+        (became logarithms) ≡ loadExport (was head) (trieLent «root_children» «root_words» keys children words) (was frequencies) (was logarithms)
+        (was text) ⌝ }
 {
     if head.len() != numbers::HEAD_LENGTH {
         return TongsvaleLoaded {
@@ -156,7 +159,9 @@ pub extern "C" fn tongsvale_add(
     word: &[u8],
     frequency: u64,
 ) -> TongsvaleAdded
-    ensures { λ r. ⌜ exported (r .number) (r .frequency) (became head) (trieLeft «root_children» «root_words» keys children words) (became frequencies) (became logarithms) ≡ addExport (was head) (trieLent «root_children» «root_words» keys children words) (was frequencies) (was logarithms) (was word) frequency ⌝ }
+    ensures { λ r. ⌜ exported (r .number) (r .frequency) (became head) (trieLeft «root_children» «root_words» keys children words)
+        (became frequencies) (became logarithms) ≡ addExport (was head) (trieLent «root_children» «root_words» keys children words) (was frequencies)
+        (was logarithms) (was word) frequency ⌝ }
 {
     if head.len() != numbers::HEAD_LENGTH {
         return TongsvaleAdded {
@@ -198,7 +203,8 @@ pub extern "C" fn tongsvale_lookup(
     logarithms: &[f64],
     word: &[u8],
 ) -> TongsvaleFound
-    ensures { λ r. ⌜ foundNumbers (r .number) (r .held) (r .frequency) ≡ lookupExport (was head) (trieLent «root_children» «root_words» keys children words) (was frequencies) (was logarithms) (was word) ⌝ }
+    ensures { λ r. ⌜ foundNumbers (r .number) (r .held) (r .frequency)
+        ≡ lookupExport (was head) (trieLent «root_children» «root_words» keys children words) (was frequencies) (was logarithms) (was word) ⌝ }
 {
     if head.len() != numbers::HEAD_LENGTH {
         return TongsvaleFound {
@@ -207,7 +213,7 @@ pub extern "C" fn tongsvale_lookup(
             frequency: 0,
         };
     }
-    match lookup::lookup(
+    let found = numbers::found_numbers(lookup::lookup(
         numbers::read_head(head),
         root_children,
         root_words,
@@ -217,22 +223,11 @@ pub extern "C" fn tongsvale_lookup(
         frequencies,
         logarithms,
         word,
-    ) {
-        Found::Frequency(frequency) => TongsvaleFound {
-            number: 0,
-            held: 1,
-            frequency,
-        },
-        Found::Absent => TongsvaleFound {
-            number: 0,
-            held: 0,
-            frequency: 0,
-        },
-        Found::NotLookedUp(outcome) => TongsvaleFound {
-            number: book::number_of(outcome),
-            held: 0,
-            frequency: 0,
-        },
+    ));
+    TongsvaleFound {
+        number: found.number,
+        held: found.held,
+        frequency: found.frequency,
     }
 }
 
@@ -258,10 +253,13 @@ pub extern "C" fn tongsvale_cut(
     edge_records: &mut [u32],
     tokens: &mut [u32],
 ) -> TongsvaleCut
-    ensures { λ r. ⌜ cutNumbers (r .number) (r .count) (became tokens) ≡ cutExport (was head) (trieLent «root_children» «root_words» keys children words) (was frequencies) (was logarithms)
+    ensures { λ r. ⌜ cutNumbers (r .number) (r .count) (became tokens)
+        ≡ cutExport (was head) (trieLent «root_children» «root_words» keys children words) (was frequencies) (was logarithms)
         (CutAreas.workLent chars offsets starts scores ends records) (CutAreas.roomLent «edge_ends» «edge_records») (was tokens) (was sentence) ⌝ }
-    ensures { λ _. ⌜ (cutBegins (was head) (trieLent «root_children» «root_words» keys children words) (was frequencies) (was logarithms) (CutAreas.workLent chars offsets starts scores ends records) (was tokens) (was sentence) ≡ false
-        → Unchanged chars × Unchanged offsets × Unchanged starts × Unchanged scores × Unchanged ends × Unchanged records × Unchanged «edge_ends» × Unchanged «edge_records») ⌝ }
+    ensures { λ _. ⌜ (cutBegins (was head) (trieLent «root_children» «root_words» keys children words) (was frequencies) (was logarithms)
+        (CutAreas.workLent chars offsets starts scores ends records) (was tokens) (was sentence) ≡ false
+        → Unchanged chars × Unchanged offsets × Unchanged starts × Unchanged scores × Unchanged ends × Unchanged records × Unchanged «edge_ends»
+        × Unchanged «edge_records») ⌝ }
 {
     if head.len() != numbers::HEAD_LENGTH {
         return refused();
@@ -310,15 +308,18 @@ pub extern "C" fn tongsvale_cut_for_search(
     edge_records: &mut [u32],
     tokens: &mut [u32],
 ) -> TongsvaleCut
-    ensures { λ r. ⌜ cutNumbers (r .number) (r .count) (became tokens) ≡ cutForSearchExport (was head) (trieLent «root_children» «root_words» keys children words) (was frequencies) (was logarithms)
+    ensures { λ r. ⌜ cutNumbers (r .number) (r .count) (became tokens)
+        ≡ cutForSearchExport (was head) (trieLent «root_children» «root_words» keys children words) (was frequencies) (was logarithms)
         (CutAreas.workLent chars offsets starts scores ends records) (CutAreas.roomLent «edge_ends» «edge_records») (was tokens) (was sentence) ⌝ }
-    ensures { λ _. ⌜ (cutBegins (was head) (trieLent «root_children» «root_words» keys children words) (was frequencies) (was logarithms) (CutAreas.workLent chars offsets starts scores ends records) (was tokens) (was sentence) ≡ false
-        → Unchanged chars × Unchanged offsets × Unchanged starts × Unchanged scores × Unchanged ends × Unchanged records × Unchanged «edge_ends» × Unchanged «edge_records») ⌝ }
+    ensures { λ _. ⌜ (cutBegins (was head) (trieLent «root_children» «root_words» keys children words) (was frequencies) (was logarithms)
+        (CutAreas.workLent chars offsets starts scores ends records) (was tokens) (was sentence) ≡ false
+        → Unchanged chars × Unchanged offsets × Unchanged starts × Unchanged scores × Unchanged ends × Unchanged records × Unchanged «edge_ends»
+        × Unchanged «edge_records») ⌝ }
 {
     if head.len() != numbers::HEAD_LENGTH {
         return refused();
     }
-    returned(cut::cut_for_search(
+    returned(cut_for_search::cut_for_search(
         numbers::read_head(head),
         root_children,
         root_words,
@@ -363,10 +364,13 @@ pub extern "C" fn tongsvale_tokenize(
     edge_records: &mut [u32],
     tokens: &mut [u32],
 ) -> TongsvaleCut
-    ensures { λ r. ⌜ cutNumbers (r .number) (r .count) (became tokens) ≡ tokenizeExport (was head) (trieLent «root_children» «root_words» keys children words) (was frequencies) (was logarithms)
+    ensures { λ r. ⌜ cutNumbers (r .number) (r .count) (became tokens)
+        ≡ tokenizeExport (was head) (trieLent «root_children» «root_words» keys children words) (was frequencies) (was logarithms)
         mode (CutAreas.workLent chars offsets starts scores ends records) (CutAreas.roomLent «edge_ends» «edge_records») (was tokens) (was sentence) ⌝ }
-    ensures { λ _. ⌜ ((isMode mode && cutBegins (was head) (trieLent «root_children» «root_words» keys children words) (was frequencies) (was logarithms) (CutAreas.workLent chars offsets starts scores ends records) (was tokens) (was sentence)) ≡ false
-        → Unchanged chars × Unchanged offsets × Unchanged starts × Unchanged scores × Unchanged ends × Unchanged records × Unchanged «edge_ends» × Unchanged «edge_records») ⌝ }
+    ensures { λ _. ⌜ ((isMode mode && cutBegins (was head) (trieLent «root_children» «root_words» keys children words) (was frequencies)
+        (was logarithms) (CutAreas.workLent chars offsets starts scores ends records) (was tokens) (was sentence)) ≡ false
+        → Unchanged chars × Unchanged offsets × Unchanged starts × Unchanged scores × Unchanged ends × Unchanged records × Unchanged «edge_ends»
+        × Unchanged «edge_records») ⌝ }
 {
     if head.len() != numbers::HEAD_LENGTH {
         return refused();
@@ -413,9 +417,11 @@ pub extern "C" fn tongsvale_cut_all(
     offsets: &mut [u32],
     tokens: &mut [u32],
 ) -> TongsvaleCut
-    ensures { λ r. ⌜ cutNumbers (r .number) (r .count) (became tokens) ≡ cutAllExport (was head) (trieLent «root_children» «root_words» keys children words) (was frequencies) (was logarithms)
+    ensures { λ r. ⌜ cutNumbers (r .number) (r .count) (became tokens)
+        ≡ cutAllExport (was head) (trieLent «root_children» «root_words» keys children words) (was frequencies) (was logarithms)
         (CutAllAreas.workLent chars offsets) (was tokens) (was sentence) ⌝ }
-    ensures { λ _. ⌜ (cutBegins (was head) (trieLent «root_children» «root_words» keys children words) (was frequencies) (was logarithms) (CutAllAreas.workLent chars offsets) (was tokens) (was sentence) ≡ false
+    ensures { λ _. ⌜ (cutBegins (was head) (trieLent «root_children» «root_words» keys children words) (was frequencies) (was logarithms)
+        (CutAllAreas.workLent chars offsets) (was tokens) (was sentence) ≡ false
         → Unchanged chars × Unchanged offsets) ⌝ }
 {
     if head.len() != numbers::HEAD_LENGTH {

@@ -96,7 +96,8 @@ module _ (keys : List ℕ) (key i : ℕ) (inside : i < length keys) (rest : Prob
   empty-or true e = (inside, eqb-true _ _ e)
   empty-or false e = later
 
-  found-or : (found : Bool) → eqb (getD keys i 0 % 2 ^ 48) key ≡ found → Ends keys key (elim found [ true ↦ Found i | false ↦ elim (eqb (getD keys i 0) 0) [ true ↦ Empty i | false ↦ rest ] ])
+  found-or : (found : Bool) → eqb (getD keys i 0 % 2 ^ 48) key ≡ found
+      → Ends keys key (elim found [ true ↦ Found i | false ↦ elim (eqb (getD keys i 0) 0) [ true ↦ Empty i | false ↦ rest ] ])
   found-or true e = (inside, eqb-true _ _ e)
   found-or false e = empty-or (eqb (getD keys i 0) 0) refl
 
@@ -104,7 +105,8 @@ module _ (keys : List ℕ) (key : ℕ) where
   probe-ends : (n i : ℕ) → i < length keys → Ends keys key (probeFrom n keys key i)
   unfolding probeFrom
   probe-ends zero i inside = tt
-  probe-ends (suc n) i inside = found-or keys key i inside _ (probe-ends n (nextSlot (length keys) i) (next-below _ i inside)) (eqb (getD keys i 0 % 2 ^ 48) key) refl
+  probe-ends (suc n) i inside = found-or keys key i inside _ (probe-ends n (nextSlot (length keys) i) (next-below _ i inside))
+      (eqb (getD keys i 0 % 2 ^ 48) key) refl
 
   empty-ends : (n i : ℕ) → i < length keys → Ends keys key (emptyFrom n keys i)
   unfolding emptyFrom

@@ -12,7 +12,7 @@ use lib.Count.{leadingZeros, leading-top}
 use lib.Dec.{leb, eqb}
 use lib.Pow.{pow-pos, pow-mono, pow-lt, shr-lt}
 use Rattle.trie.specs.Trie.{log2, SlotCount, startSlot, nextSlot}
-use Rattle.trie.specs.SlotCounts.{slotCount}
+use Rattle.trie.specs.SlotCounts.{mostSlots, slotCount}
 use Rattle.trie.specs.Claims.{SlotCountTested, StartsAtSlot}
 
 -- ---- leading zeros
@@ -28,7 +28,7 @@ module _ (n : ℕ) (some : 0 < n) (fits : n < 2 ^ 64) where
 -- ---- the numbers that are allowed
 
 module _ (n : ℕ) (allowed : SlotCount n) where
-  pub size : (16 ≤ n) × (n ≤ 4194304)
+  pub size : (16 ≤ n) × (n ≤ mostSlots)
   unfolding SlotCount
   size = (omega (arith, allowed .0, pow-mono (allowed .1)), omega (arith, allowed .0, pow-mono (allowed .2)))
 
@@ -60,11 +60,11 @@ pub slot-count-tested : SlotCountTested
 unfolding SlotCount slotCount
 slot-count-tested n = (
   λ tested.
-      let halves = and-eq-true-iff (leb 16 n && leb n 4194304) (eqb n (2 ^ log2 n)) .0 tested in
-      let bounds = and-eq-true-iff (leb 16 n) (leb n 4194304) .0 (halves .0) in
+      let halves = and-eq-true-iff (leb 16 n && leb n mostSlots) (eqb n (2 ^ log2 n)) .0 tested in
+      let bounds = and-eq-true-iff (leb 16 n) (leb n mostSlots) .0 (halves .0) in
       let power : n ≡ 2 ^ log2 n = eqb-true _ _ (halves .1) in
       let low : 16 ≤ n = leb-true _ _ (bounds .0) in
-      let high : n ≤ 4194304 = leb-true _ _ (bounds .1) in
+      let high : n ≤ mostSlots = leb-true _ _ (bounds .1) in
       (power, exponent-le 4 (log2 n) (omega arith), exponent-le (log2 n) 22 (omega arith)),
   λ allowed. let s = size n allowed in rw (le-leb _ _ (s .0), le-leb _ _ (s .1)) (eq-eqb _ _ (allowed .0)),
 )
@@ -75,15 +75,15 @@ module _ (n : ℕ) where
   unfolding slotCount
   too-few h = rw (lt-leb 16 n h)
 
-  pub too-many : 4194304 < n → false ≡ slotCount n
+  pub too-many : mostSlots < n → false ≡ slotCount n
   unfolding slotCount
-  too-many h = rw (lt-leb n 4194304 h, and-false)
+  too-many h = rw (lt-leb n mostSlots h, and-false)
 
-  pub by-power : 16 ≤ n → n ≤ 4194304 → eqb n (1 * 2 ^ (63 - leadingZeros 64 n) % 2 ^ 64) ≡ slotCount n
+  pub by-power : 16 ≤ n → n ≤ mostSlots → eqb n (1 * 2 ^ (63 - leadingZeros 64 n) % 2 ^ 64) ≡ slotCount n
   unfolding slotCount log2
   by-power low high =
       let below : 63 - leadingZeros 64 n < 64 = omega arith in
-      rw (one-mul, mod-eq-of-lt (pow-lt below), le-leb 16 n low, le-leb n 4194304 high)
+      rw (one-mul, mod-eq-of-lt (pow-lt below), le-leb 16 n low, le-leb n mostSlots high)
 
 -- ---- the next slot
 

@@ -6,5 +6,11 @@ use mathlib.Core.Bool.{Bool, _&&_}
 use lib.Dec.{leb, eqb}
 use Rattle.trie.specs.Trie.{log2}
 
+abbrev pub fewestSlots : ℕ
+fewestSlots = 16
+
+abbrev pub mostSlots : ℕ
+mostSlots = 4194304
+
 unfoldable pub slotCount : ℕ → Bool
-slotCount n = leb 16 n && leb n 4194304 && eqb n (2 ^ log2 n)
+slotCount n = leb fewestSlots n && leb n mostSlots && eqb n (2 ^ log2 n)

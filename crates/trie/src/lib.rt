@@ -97,14 +97,19 @@ pub fn filter_bits(ch: u32) -> FilterBits
     }
 }
 
-// Whether a table may have n slots: a power of two from 16 to 4,194,304.
+// The fewest slots of a table, and the most.
+const FEWEST_SLOTS: usize = 16;
+
+pub const MOST_SLOTS: usize = 4_194_304;
+
+// Whether a table may have n slots: a power of two from the fewest to the most.
 pub fn is_slot_count(n: usize) -> bool
     ensures { λ r. ⌜ r ≡ slotCount n ⌝ }
 {
-    if n < 16 {
+    if n < FEWEST_SLOTS {
         return false;
     }
-    if 4_194_304 < n {
+    if MOST_SLOTS < n {
         return false;
     }
     n == 1usize << (63 - usize::leading_zeros(n))

@@ -105,7 +105,8 @@ module _ (Q : List ℕ → Type 0) (shortens : Shortens Q) where
     unfolding searchBlock
     search-one room base b w e = by (b .matched)
       where
-        by : (m : Bool) → searchBlock v room base (record { matched = m; chars = b .chars }) w ≡ searchBlock v′ room base (record { matched = m; chars = b .chars }) w
+        by : (m : Bool) → searchBlock v room base (record { matched = m; chars = b .chars }) w
+            ≡ searchBlock v′ room base (record { matched = m; chars = b .chars }) w
         by true = rw (walks-alike 0 (b .chars) e, same-total)
         by false = refl
 
@@ -123,7 +124,8 @@ module _ (Q : List ℕ → Type 0) (shortens : Shortens Q) where
 
     pub search-alike : (room : ℕ) (class : ℕ → Bool) (cs : List ℕ) → Everywhere Q cs → (w : Written)
         → cutBlocks (searchBlock v room) start (blocksOf class cs) w ≡ cutBlocks (searchBlock v′ room) start (blocksOf class cs) w
-    search-alike room class cs h w = blocks-alike (searchBlock v room) (searchBlock v′ room) (search-one room) (blocksOf class cs) (each-block class cs h) start w
+    search-alike room class cs h w = blocks-alike (searchBlock v room) (searchBlock v′ room) (search-one room) (blocksOf class cs)
+        (each-block class cs h) start w
 
     pub all-alike : (class : ℕ → Bool) (cs : List ℕ) → Everywhere Q cs → (w : Written)
         → cutBlocks (cutAllBlock v) start (blocksOf class cs) w ≡ cutBlocks (cutAllBlock v′) start (blocksOf class cs) w
@@ -137,12 +139,15 @@ pub tests-alike : (t : Tested) (work : ℕ) (area sentence : List ℕ) (cutting 
     → cutWith t work area cutting sentence ≡ cutWith t work area cutting′ sentence
 unfolding cutWith
 tests-alike t work area sentence cutting cutting′ same =
-    ap (λ (a : CutAnswer). cond (t .sizes && eqb (length area % tokenWidth) 0) a (answer BadAreas (written 0 area))) (by-length (leb (length sentence) longestText) refl)
+    ap (λ (a : CutAnswer). cond (t .sizes && eqb (length area % tokenWidth) 0) a (answer BadAreas (written 0 area)))
+    (by-length (leb (length sentence) longestText) refl)
   where
-    by-chars : (cs : Option (List ℕ)) → length sentence ≤ longestText → charsOf sentence ≡ cs → cutChars t work cutting (written 0 area) cs ≡ cutChars t work cutting′ (written 0 area) cs
+    by-chars : (cs : Option (List ℕ)) → length sentence ≤ longestText → charsOf sentence ≡ cs
+        → cutChars t work cutting (written 0 area) cs ≡ cutChars t work cutting′ (written 0 area) cs
     by-chars none l e = refl
     by-chars (some cs) l e =
-        ap (λ (a : CutAnswer). cond (ltb work (length cs + 1)) (answer WorkTooShort (written 0 area)) (cond (t .damage) (answer Damaged (written 0 area)) a)) (same cs l e (written 0 area))
+        ap (λ (a : CutAnswer). cond (ltb work (length cs + 1)) (answer WorkTooShort (written 0 area))
+        (cond (t .damage) (answer Damaged (written 0 area)) a)) (same cs l e (written 0 area))
 
     by-length : (z : Bool) → leb (length sentence) longestText ≡ z
         → cond z (cutChars t work cutting (written 0 area) (charsOf sentence)) (answer TooLong (written 0 area))

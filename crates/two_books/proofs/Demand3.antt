@@ -26,7 +26,8 @@ use Rattle.cuts.specs.declared.TokenizeMode.the-variants.{Default, Search}
 use Rattle.cuts.specs.Blocks.{blocksOf}
 use Rattle.cuts.specs.Edges.{Vocabulary, vocabularyOf}
 use Rattle.cuts.specs.Tokens.{Written}
-use Rattle.cuts.specs.Cuts.{CutAnswer, Tested, testedBook, cutBlock, cutAllBlock, searchBlock, cutBlocks, start, cutWith, cutBy, cutAllBy, cutForSearchBy, cutOf, cutAllOf, cutForSearchOf, tokenizeOf}
+use Rattle.cuts.specs.Cuts.{CutAnswer, Tested, testedBook, cutBlock, cutAllBlock, searchBlock, cutBlocks, start, cutWith, cutBy, cutAllBy, cutForSearchBy}
+use Rattle.cuts.specs.Cuts.{cutOf, cutAllOf, cutForSearchOf, tokenizeOf}
 use Rattle.two_books.specs.HeldWords.{heldVocabulary, sound, heldCut, heldCutAll, heldCutForSearch, heldTokenize, heldAnswer}
 use Rattle.two_books.specs.Runs.{ledgerOf, Cutter, Cut, CutAll, CutForSearch, Tokenize, Areas, Answered}
 use Rattle.two_books.specs.Demand3.{orNone, charactersOf, stretch, SameStretches, EqualAreas, HeldAsLedger, FromHeldWords, Demand3}
@@ -66,7 +67,8 @@ module _ (b : Book) (ledger : List Entry) (by : BuiltByCalls b ledger) where
         ∙ tests-alike sound work area sentence
         (λ cs. cutBlocks (cutBlock (vocabularyOf b) room) start (blocksOf cutClass cs))
         (λ cs. cutBlocks (cutBlock (heldVocabulary ledger) room) start (blocksOf cutClass cs))
-        (λ cs l e w. cut-alike Scalars shortens-scalars (vocabularyOf b) (heldVocabulary ledger) words-held total-held room cutClass cs (read-everywhere sentence cs e) w)
+        (λ cs l e w. cut-alike Scalars shortens-scalars (vocabularyOf b) (heldVocabulary ledger) words-held total-held room cutClass cs
+        (read-everywhere sentence cs e) w)
 
     cut-all-held : cutAllOf b work area sentence ≡ heldCutAll ledger work area sentence
     unfolding cutAllOf heldCutAll
@@ -75,7 +77,8 @@ module _ (b : Book) (ledger : List Entry) (by : BuiltByCalls b ledger) where
         ∙ tests-alike sound work area sentence
         (λ cs. cutBlocks (cutAllBlock (vocabularyOf b)) start (blocksOf cutAllClass cs))
         (λ cs. cutBlocks (cutAllBlock (heldVocabulary ledger)) start (blocksOf cutAllClass cs))
-        (λ cs l e w. all-alike Scalars shortens-scalars (vocabularyOf b) (heldVocabulary ledger) words-held total-held cutAllClass cs (read-everywhere sentence cs e) w)
+        (λ cs l e w. all-alike Scalars shortens-scalars (vocabularyOf b) (heldVocabulary ledger) words-held total-held cutAllClass cs
+        (read-everywhere sentence cs e) w)
 
     cut-for-search-held : cutForSearchOf b work room area sentence ≡ heldCutForSearch ledger work room area sentence
     unfolding cutForSearchOf heldCutForSearch
@@ -84,7 +87,8 @@ module _ (b : Book) (ledger : List Entry) (by : BuiltByCalls b ledger) where
         ∙ tests-alike sound work area sentence
         (λ cs. cutBlocks (searchBlock (vocabularyOf b) room) start (blocksOf cutClass cs))
         (λ cs. cutBlocks (searchBlock (heldVocabulary ledger) room) start (blocksOf cutClass cs))
-        (λ cs l e w. search-alike Scalars shortens-scalars (vocabularyOf b) (heldVocabulary ledger) words-held total-held room cutClass cs (read-everywhere sentence cs e) w)
+        (λ cs l e w. search-alike Scalars shortens-scalars (vocabularyOf b) (heldVocabulary ledger) words-held total-held room cutClass cs
+        (read-everywhere sentence cs e) w)
 
     tokenize-held : (mode : TokenizeMode) → tokenizeOf mode b work room area sentence ≡ heldTokenize mode ledger work room area sentence
     unfolding tokenizeOf heldTokenize
@@ -95,15 +99,21 @@ module _ (b : Book) (ledger : List Entry) (by : BuiltByCalls b ledger) where
 
     cut-fine : Fine (heldCut ledger work room area sentence)
     unfolding heldCut
-    cut-fine = fine-tests sound work area sentence _ refl (λ cs w. fine-blocks (cutBlock (heldVocabulary ledger) room) (fine-cut (heldVocabulary ledger) (λ at cs. refl) room) (blocksOf cutClass cs) start w)
+    cut-fine = fine-tests sound work area sentence _ refl
+        (λ cs w. fine-blocks (cutBlock (heldVocabulary ledger) room) (fine-cut (heldVocabulary ledger) (λ at cs. refl) room) (blocksOf cutClass cs)
+        start w)
 
     cut-all-fine : Fine (heldCutAll ledger work area sentence)
     unfolding heldCutAll
-    cut-all-fine = fine-tests sound work area sentence _ refl (λ cs w. fine-blocks (cutAllBlock (heldVocabulary ledger)) (fine-all (heldVocabulary ledger) (λ at cs. refl)) (blocksOf cutAllClass cs) start w)
+    cut-all-fine = fine-tests sound work area sentence _ refl
+        (λ cs w. fine-blocks (cutAllBlock (heldVocabulary ledger)) (fine-all (heldVocabulary ledger) (λ at cs. refl)) (blocksOf cutAllClass cs)
+        start w)
 
     cut-for-search-fine : Fine (heldCutForSearch ledger work room area sentence)
     unfolding heldCutForSearch
-    cut-for-search-fine = fine-tests sound work area sentence _ refl (λ cs w. fine-blocks (searchBlock (heldVocabulary ledger) room) (fine-search (heldVocabulary ledger) (λ at cs. refl) room) (blocksOf cutClass cs) start w)
+    cut-for-search-fine = fine-tests sound work area sentence _ refl
+        (λ cs w. fine-blocks (searchBlock (heldVocabulary ledger) room) (fine-search (heldVocabulary ledger) (λ at cs. refl) room)
+        (blocksOf cutClass cs) start w)
 
     tokenize-fine : (mode : TokenizeMode) → Fine (heldTokenize mode ledger work room area sentence)
     unfolding heldTokenize
@@ -156,7 +166,8 @@ module _ (ledger ledger′ : List Entry) where
 
   -- the stretches of a text, at each of its positions
   abbrev Stretches : List ℕ → Type 0
-  Stretches cs = (from more : ℕ) → from + suc more ≤ length cs → frequencyIn ledger (take (suc more) (drop from cs)) ≡ frequencyIn ledger′ (take (suc more) (drop from cs))
+  Stretches cs = (from more : ℕ) → from + suc more ≤ length cs
+      → frequencyIn ledger (take (suc more) (drop from cs)) ≡ frequencyIn ledger′ (take (suc more) (drop from cs))
 
   same-everywhere : (cs : List ℕ) → Stretches cs → Everywhere (SamePrefixes ledger ledger′) cs
   same-everywhere [] same = tt
@@ -183,7 +194,8 @@ module _ (ledger ledger′ : List Entry) where
           tests-alike sound work area sentence
           (λ cs. cutBlocks (cutBlock (heldVocabulary ledger) room) start (blocksOf cutClass cs))
           (λ cs. cutBlocks (cutBlock (heldVocabulary ledger′) room) start (blocksOf cutClass cs))
-          (λ cs l e w. cut-alike (SamePrefixes ledger ledger′) shortens-same (heldVocabulary ledger) (heldVocabulary ledger′) words-alike sums room cutClass cs (sentence-everywhere cs l e) w)
+          (λ cs l e w. cut-alike (SamePrefixes ledger ledger′) shortens-same (heldVocabulary ledger) (heldVocabulary ledger′)
+          words-alike sums room cutClass cs (sentence-everywhere cs l e) w)
 
       held-cut-all-alike : heldCutAll ledger work area sentence ≡ heldCutAll ledger′ work area sentence
       unfolding heldCutAll
@@ -191,7 +203,8 @@ module _ (ledger ledger′ : List Entry) where
           tests-alike sound work area sentence
           (λ cs. cutBlocks (cutAllBlock (heldVocabulary ledger)) start (blocksOf cutAllClass cs))
           (λ cs. cutBlocks (cutAllBlock (heldVocabulary ledger′)) start (blocksOf cutAllClass cs))
-          (λ cs l e w. all-alike (SamePrefixes ledger ledger′) shortens-same (heldVocabulary ledger) (heldVocabulary ledger′) words-alike sums cutAllClass cs (sentence-everywhere cs l e) w)
+          (λ cs l e w. all-alike (SamePrefixes ledger ledger′) shortens-same (heldVocabulary ledger) (heldVocabulary ledger′)
+          words-alike sums cutAllClass cs (sentence-everywhere cs l e) w)
 
       held-cut-for-search-alike : heldCutForSearch ledger work room area sentence ≡ heldCutForSearch ledger′ work room area sentence
       unfolding heldCutForSearch
@@ -199,7 +212,8 @@ module _ (ledger ledger′ : List Entry) where
           tests-alike sound work area sentence
           (λ cs. cutBlocks (searchBlock (heldVocabulary ledger) room) start (blocksOf cutClass cs))
           (λ cs. cutBlocks (searchBlock (heldVocabulary ledger′) room) start (blocksOf cutClass cs))
-          (λ cs l e w. search-alike (SamePrefixes ledger ledger′) shortens-same (heldVocabulary ledger) (heldVocabulary ledger′) words-alike sums room cutClass cs (sentence-everywhere cs l e) w)
+          (λ cs l e w. search-alike (SamePrefixes ledger ledger′) shortens-same (heldVocabulary ledger) (heldVocabulary ledger′)
+          words-alike sums room cutClass cs (sentence-everywhere cs l e) w)
 
       held-tokenize-alike : (mode : TokenizeMode) → heldTokenize mode ledger work room area sentence ≡ heldTokenize mode ledger′ work room area sentence
       unfolding heldTokenize
@@ -220,7 +234,8 @@ same-areas lent lent′ equal = rw (equal .work-areas, equal .edge-areas, equal 
 
 pub demand-3 : Demand3
 demand-3 r r′ sentence same totals lent lent′ equal cutter a a′ e e′ = record {
-  alike = of-first .defined ∙ held-alike ledger ledger′ sentence same sums lent cutter ∙ ap (λ (areas : Areas). heldAnswer cutter ledger′ areas sentence) (same-areas lent lent′ equal) ∙ sym (of-second .defined);
+  alike = of-first .defined ∙ held-alike ledger ledger′ sentence same sums lent cutter
+      ∙ ap (λ (areas : Areas). heldAnswer cutter ledger′ areas sentence) (same-areas lent lent′ equal) ∙ sym (of-second .defined);
   from-held-words = of-first;
   from-held-words′ = of-second;
   held-as-ledger = held (r .book) ledger (run-built r);

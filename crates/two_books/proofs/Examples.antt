@@ -13,7 +13,8 @@ use Rattle.classes.specs.WhiteSpace.{whiteSpace}
 use Rattle.classes.specs.Ranges.{inRanges}
 use Rattle.classes.specs.Blocks.{cutClass, han, hanMain, hanExtension, asciiLetterOrDigit, cutSign}
 use Rattle.classes.specs.Tokens.{joins, connector, asciiLetter}
-use Rattle.trie.specs.Trie.{getOf, walk, wordAt, wordNumber, testedStep, openStep, bitsAt, fromRoot, nodeAt, probeOf, probeFrom, nextSlot, startSlot, log2, keyOf, filterHash, keyBit, childBit, reach, newSlots, withBits, withWord, emptyFrom, emptySlot, extend, insert}
+use Rattle.trie.specs.Trie.{getOf, walk, wordAt, wordNumber, testedStep, openStep, bitsAt, fromRoot, nodeAt, probeOf, probeFrom, nextSlot, startSlot, log2}
+use Rattle.trie.specs.Trie.{keyOf, filterHash, keyBit, childBit, reach, newSlots, withBits, withWord, emptyFrom, emptySlot, extend, insert}
 use Rattle.trie.specs.SlotCounts.{slotCount}
 use Rattle.arith.specs.Bits.{hasBit, withBit}
 use Rattle.book.specs.Returns.{allowed, headDamaged, emptyBook, lookupOf}
@@ -34,65 +35,74 @@ use Rattle.two_books.specs.Runs.{ledgerOf, Cutter, Cut, CutAll, CutForSe
 use Rattle.two_books.specs.Demand3.{SameStretches}
 use Rattle.two_books.specs.Examples.{oneBridge, otherBridge, command, lent, commandAnswer, NotVacuous, totalOfZero, totalOfOne, pair, EachPremiseNeeded}
 
-same-on-command : SameStretches (ledgerOf oneBridge) (ledgerOf otherBridge) command
-unfolding charsOf charsWithin readFrom byteLength encode linesOf meaningOf fieldsOf pieces frequencyOf number whiteSpace inRanges cutClass han hanMain hanExtension asciiLetterOrDigit cutSign joins connector asciiLetter getOf walk wordAt wordNumber testedStep openStep bitsAt fromRoot nodeAt probeOf probeFrom nextSlot startSlot log2 keyOf filterHash keyBit childBit reach newSlots withBits withWord emptyFrom emptySlot extend insert slotCount hasBit withBit allowed headDamaged emptyBook lookupOf decide emptySlots replaced inserted loadLines loadOf wordsFrom walkOn logFloat L logOf highestOne significand nextBit nextSignificand bitsOf floatOf blocksOf walksOf edgesWithin choose routeOf stepsFrom piecesOf joined cutRoute singly runsOf parts partsOf wordsOfSize searched tokenOf putSpans putWalks cutBlock searchBlock cutAllBlock cutBlocks cutWith cutOf cutAllOf cutForSearchOf tokenizeOf leadingZeros span climb size odd units round neg sum add sub lt eq ofInt whole addOf answersOf answerOf bookAfter bookAfterAll ledgerAfter ledgerAfterAll ledgerAfterAdd ledgerAfterLoad enterLines enterIn frequencyIn sameWord
-same-on-command zero zero h = refl
-same-on-command zero (suc zero) h = refl
-same-on-command zero (suc (suc zero)) h = refl
-same-on-command (suc zero) zero h = refl
-same-on-command (suc zero) (suc zero) h = refl
-same-on-command (suc (suc zero)) zero h = refl
-same-on-command zero (suc (suc (suc more))) h = absurd (omega arith)
-same-on-command (suc zero) (suc (suc more)) h = absurd (omega arith)
-same-on-command (suc (suc zero)) (suc more) h = absurd (omega arith)
-same-on-command (suc (suc (suc from))) more h = absurd (omega arith)
+-- all of it by computation, under one list of the definitions that are computed
+examples : NotVacuous × EachPremiseNeeded
+unfolding charsOf charsWithin readFrom byteLength encode linesOf meaningOf fieldsOf pieces frequencyOf number whiteSpace inRanges cutClass han hanMain
+    hanExtension asciiLetterOrDigit cutSign joins connector asciiLetter getOf walk wordAt wordNumber testedStep openStep bitsAt fromRoot nodeAt
+    probeOf probeFrom nextSlot startSlot log2 keyOf filterHash keyBit childBit reach newSlots withBits withWord emptyFrom emptySlot extend insert
+    slotCount hasBit withBit allowed headDamaged emptyBook lookupOf decide emptySlots replaced inserted loadLines loadOf wordsFrom walkOn logFloat L
+    logOf highestOne significand nextBit nextSignificand bitsOf floatOf blocksOf walksOf edgesWithin choose routeOf stepsFrom piecesOf joined cutRoute
+    singly runsOf parts partsOf wordsOfSize searched tokenOf putSpans putWalks cutBlock searchBlock cutAllBlock cutBlocks cutWith cutOf cutAllOf
+    cutForSearchOf tokenizeOf leadingZeros span climb size odd units round neg sum add sub lt eq ofInt whole addOf answersOf answerOf bookAfter
+    bookAfterAll ledgerAfter ledgerAfterAll ledgerAfterAdd ledgerAfterLoad enterLines enterIn frequencyIn sameWord
+examples = (
+  record {
+    stretches = same-on-command;
+    totals = refl;
+    equal = record { work-areas = refl; edge-areas = refl; token-areas = refl };
+    answers = refl;
+    one-answered = one-cuts;
+    other-answered = other-cuts;
+  },
+  record {
+    totals = refl;
+    tied = refl;
+    not-tied = refl;
+    stretches = same-on-pair;
+    total-zero = refl;
+    total-one = refl;
+    shorter-work = refl;
+    shorter-edges = refl;
+    shorter-tokens = refl;
+  },
+)
+  where
+    same-on-command : SameStretches (ledgerOf oneBridge) (ledgerOf otherBridge) command
+    same-on-command zero zero h = refl
+    same-on-command zero (suc zero) h = refl
+    same-on-command zero (suc (suc zero)) h = refl
+    same-on-command (suc zero) zero h = refl
+    same-on-command (suc zero) (suc zero) h = refl
+    same-on-command (suc (suc zero)) zero h = refl
+    same-on-command zero (suc (suc (suc more))) h = absurd (omega arith)
+    same-on-command (suc zero) (suc (suc more)) h = absurd (omega arith)
+    same-on-command (suc (suc zero)) (suc more) h = absurd (omega arith)
+    same-on-command (suc (suc (suc from))) more h = absurd (omega arith)
 
-same-on-pair : SameStretches (ledgerOf totalOfZero) (ledgerOf totalOfOne) pair
-unfolding charsOf charsWithin readFrom byteLength encode linesOf meaningOf fieldsOf pieces frequencyOf number whiteSpace inRanges cutClass han hanMain hanExtension asciiLetterOrDigit cutSign joins connector asciiLetter getOf walk wordAt wordNumber testedStep openStep bitsAt fromRoot nodeAt probeOf probeFrom nextSlot startSlot log2 keyOf filterHash keyBit childBit reach newSlots withBits withWord emptyFrom emptySlot extend insert slotCount hasBit withBit allowed headDamaged emptyBook lookupOf decide emptySlots replaced inserted loadLines loadOf wordsFrom walkOn logFloat L logOf highestOne significand nextBit nextSignificand bitsOf floatOf blocksOf walksOf edgesWithin choose routeOf stepsFrom piecesOf joined cutRoute singly runsOf parts partsOf wordsOfSize searched tokenOf putSpans putWalks cutBlock searchBlock cutAllBlock cutBlocks cutWith cutOf cutAllOf cutForSearchOf tokenizeOf leadingZeros span climb size odd units round neg sum add sub lt eq ofInt whole addOf answersOf answerOf bookAfter bookAfterAll ledgerAfter ledgerAfterAll ledgerAfterAdd ledgerAfterLoad enterLines enterIn frequencyIn sameWord
-same-on-pair zero zero h = refl
-same-on-pair zero (suc zero) h = refl
-same-on-pair (suc zero) zero h = refl
-same-on-pair zero (suc (suc more)) h = absurd (omega arith)
-same-on-pair (suc zero) (suc more) h = absurd (omega arith)
-same-on-pair (suc (suc from)) more h = absurd (omega arith)
+    same-on-pair : SameStretches (ledgerOf totalOfZero) (ledgerOf totalOfOne) pair
+    same-on-pair zero zero h = refl
+    same-on-pair zero (suc zero) h = refl
+    same-on-pair (suc zero) zero h = refl
+    same-on-pair zero (suc (suc more)) h = absurd (omega arith)
+    same-on-pair (suc zero) (suc more) h = absurd (omega arith)
+    same-on-pair (suc (suc from)) more h = absurd (omega arith)
 
-one-cuts : (cutter : Cutter) → Answered cutter (oneBridge .book) lent command (commandAnswer cutter)
-unfolding charsOf charsWithin readFrom byteLength encode linesOf meaningOf fieldsOf pieces frequencyOf number whiteSpace inRanges cutClass han hanMain hanExtension asciiLetterOrDigit cutSign joins connector asciiLetter getOf walk wordAt wordNumber testedStep openStep bitsAt fromRoot nodeAt probeOf probeFrom nextSlot startSlot log2 keyOf filterHash keyBit childBit reach newSlots withBits withWord emptyFrom emptySlot extend insert slotCount hasBit withBit allowed headDamaged emptyBook lookupOf decide emptySlots replaced inserted loadLines loadOf wordsFrom walkOn logFloat L logOf highestOne significand nextBit nextSignificand bitsOf floatOf blocksOf walksOf edgesWithin choose routeOf stepsFrom piecesOf joined cutRoute singly runsOf parts partsOf wordsOfSize searched tokenOf putSpans putWalks cutBlock searchBlock cutAllBlock cutBlocks cutWith cutOf cutAllOf cutForSearchOf tokenizeOf leadingZeros span climb size odd units round neg sum add sub lt eq ofInt whole addOf answersOf answerOf bookAfter bookAfterAll ledgerAfter ledgerAfterAll ledgerAfterAdd ledgerAfterLoad enterLines enterIn frequencyIn sameWord
-one-cuts Cut = refl
-one-cuts CutAll = refl
-one-cuts CutForSearch = refl
-one-cuts (Tokenize Default) = refl
-one-cuts (Tokenize Search) = refl
+    one-cuts : (cutter : Cutter) → Answered cutter (oneBridge .book) lent command (commandAnswer cutter)
+    one-cuts Cut = refl
+    one-cuts CutAll = refl
+    one-cuts CutForSearch = refl
+    one-cuts (Tokenize Default) = refl
+    one-cuts (Tokenize Search) = refl
 
-other-cuts : (cutter : Cutter) → Answered cutter (otherBridge .book) lent command (commandAnswer cutter)
-unfolding charsOf charsWithin readFrom byteLength encode linesOf meaningOf fieldsOf pieces frequencyOf number whiteSpace inRanges cutClass han hanMain hanExtension asciiLetterOrDigit cutSign joins connector asciiLetter getOf walk wordAt wordNumber testedStep openStep bitsAt fromRoot nodeAt probeOf probeFrom nextSlot startSlot log2 keyOf filterHash keyBit childBit reach newSlots withBits withWord emptyFrom emptySlot extend insert slotCount hasBit withBit allowed headDamaged emptyBook lookupOf decide emptySlots replaced inserted loadLines loadOf wordsFrom walkOn logFloat L logOf highestOne significand nextBit nextSignificand bitsOf floatOf blocksOf walksOf edgesWithin choose routeOf stepsFrom piecesOf joined cutRoute singly runsOf parts partsOf wordsOfSize searched tokenOf putSpans putWalks cutBlock searchBlock cutAllBlock cutBlocks cutWith cutOf cutAllOf cutForSearchOf tokenizeOf leadingZeros span climb size odd units round neg sum add sub lt eq ofInt whole addOf answersOf answerOf bookAfter bookAfterAll ledgerAfter ledgerAfterAll ledgerAfterAdd ledgerAfterLoad enterLines enterIn frequencyIn sameWord
-other-cuts Cut = refl
-other-cuts CutAll = refl
-other-cuts CutForSearch = refl
-other-cuts (Tokenize Default) = refl
-other-cuts (Tokenize Search) = refl
+    other-cuts : (cutter : Cutter) → Answered cutter (otherBridge .book) lent command (commandAnswer cutter)
+    other-cuts Cut = refl
+    other-cuts CutAll = refl
+    other-cuts CutForSearch = refl
+    other-cuts (Tokenize Default) = refl
+    other-cuts (Tokenize Search) = refl
 
 pub not-vacuous : NotVacuous
-unfolding charsOf charsWithin readFrom byteLength encode linesOf meaningOf fieldsOf pieces frequencyOf number whiteSpace inRanges cutClass han hanMain hanExtension asciiLetterOrDigit cutSign joins connector asciiLetter getOf walk wordAt wordNumber testedStep openStep bitsAt fromRoot nodeAt probeOf probeFrom nextSlot startSlot log2 keyOf filterHash keyBit childBit reach newSlots withBits withWord emptyFrom emptySlot extend insert slotCount hasBit withBit allowed headDamaged emptyBook lookupOf decide emptySlots replaced inserted loadLines loadOf wordsFrom walkOn logFloat L logOf highestOne significand nextBit nextSignificand bitsOf floatOf blocksOf walksOf edgesWithin choose routeOf stepsFrom piecesOf joined cutRoute singly runsOf parts partsOf wordsOfSize searched tokenOf putSpans putWalks cutBlock searchBlock cutAllBlock cutBlocks cutWith cutOf cutAllOf cutForSearchOf tokenizeOf leadingZeros span climb size odd units round neg sum add sub lt eq ofInt whole addOf answersOf answerOf bookAfter bookAfterAll ledgerAfter ledgerAfterAll ledgerAfterAdd ledgerAfterLoad enterLines enterIn frequencyIn sameWord
-not-vacuous = record {
-  stretches = same-on-command;
-  totals = refl;
-  equal = record { work-areas = refl; edge-areas = refl; token-areas = refl };
-  answers = refl;
-  one-answered = one-cuts;
-  other-answered = other-cuts;
-}
+not-vacuous = examples .0
 
 pub each-premise-needed : EachPremiseNeeded
-unfolding charsOf charsWithin readFrom byteLength encode linesOf meaningOf fieldsOf pieces frequencyOf number whiteSpace inRanges cutClass han hanMain hanExtension asciiLetterOrDigit cutSign joins connector asciiLetter getOf walk wordAt wordNumber testedStep openStep bitsAt fromRoot nodeAt probeOf probeFrom nextSlot startSlot log2 keyOf filterHash keyBit childBit reach newSlots withBits withWord emptyFrom emptySlot extend insert slotCount hasBit withBit allowed headDamaged emptyBook lookupOf decide emptySlots replaced inserted loadLines loadOf wordsFrom walkOn logFloat L logOf highestOne significand nextBit nextSignificand bitsOf floatOf blocksOf walksOf edgesWithin choose routeOf stepsFrom piecesOf joined cutRoute singly runsOf parts partsOf wordsOfSize searched tokenOf putSpans putWalks cutBlock searchBlock cutAllBlock cutBlocks cutWith cutOf cutAllOf cutForSearchOf tokenizeOf leadingZeros span climb size odd units round neg sum add sub lt eq ofInt whole addOf answersOf answerOf bookAfter bookAfterAll ledgerAfter ledgerAfterAll ledgerAfterAdd ledgerAfterLoad enterLines enterIn frequencyIn sameWord
-each-premise-needed = record {
-  totals = refl;
-  tied = refl;
-  not-tied = refl;
-  stretches = same-on-pair;
-  total-zero = refl;
-  total-one = refl;
-  shorter-work = refl;
-  shorter-edges = refl;
-  shorter-tokens = refl;
-}
+each-premise-needed = examples .1

@@ -8,7 +8,8 @@ use lib.ListN.{length, take}
 use Rattle.book.specs.Returns.{Book}
 use Rattle.book.specs.Enter.{LoadAnswer, AddAnswer}
 use Rattle.built.specs.Ledger.{Entry}
-use Rattle.built.specs.Calls.{Call, Load, Add, Answer, answer, answerOf, bookAfter, bookAfterAll, answersOf, ledgerAfterAll, bookFrom, answersFrom, BuiltByCalls, after}
+use Rattle.built.specs.Calls.{Call, Load, Add, Answer, answer, answerOf, bookAfter, bookAfterAll, answersOf, ledgerAfterAll, bookFrom, answersFrom}
+use Rattle.built.specs.Calls.{BuiltByCalls, after}
 use Rattle.two_books.specs.Runs.{Went, Ran, ended, went, Run, ledgerOf}
 use Rattle.two_books.specs.Demand3.{AnswersInTurn}
 use Rattle.two_books.proofs.Turns.{answered-in-turn}
@@ -52,10 +53,12 @@ module _ (r : Run) where
   pub run-built : BuiltByCalls (r .book) (ledgerOf r)
   run-built =
       subst (λ (b : Book). BuiltByCalls b (ledgerOf r)) (sym book-is)
-      (subst (λ (answers : List Answer). BuiltByCalls (bookFrom (r .roots) (r .slots) (r .records) (r .calls)) (ledgerAfterAll [] (r .calls) answers)) (sym answers-are)
+      (subst (λ (answers : List Answer). BuiltByCalls (bookFrom (r .roots) (r .slots) (r .records) (r .calls)) (ledgerAfterAll [] (r .calls) answers))
+      (sym answers-are)
       (after (r .roots) (r .slots) (r .records) (r .calls) (r .allowed)))
 
   pub run-in-turn : AnswersInTurn r
   run-in-turn earlier call later e =
-      ap (λ (answers : List Answer). take (suc (length earlier)) answers) (answers-are ∙ ap (λ (calls : List Call). answersFrom (r .roots) (r .slots) (r .records) calls) e)
+      ap (λ (answers : List Answer). take (suc (length earlier)) answers)
+      (answers-are ∙ ap (λ (calls : List Call). answersFrom (r .roots) (r .slots) (r .records) calls) e)
       ∙ answered-in-turn _ earlier call later

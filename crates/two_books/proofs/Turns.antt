@@ -11,4 +11,5 @@ pub answered-in-turn : (b : Book) (earlier : List Call) (call : Call) (later : L
     → take (suc (length earlier)) (answersOf b (earlier ++ (call ∷ later))) ≡ answersOf b earlier ++ (answerOf (bookAfterAll b earlier) call ∷ [])
 unfolding answersOf bookAfterAll
 answered-in-turn b [] call later = refl
-answered-in-turn b (first ∷ earlier) call later = ap (λ (answers : List Answer). answerOf b first ∷ answers) (answered-in-turn (bookAfter b first) earlier call later)
+answered-in-turn b (first ∷ earlier) call later =
+    ap (λ (answers : List Answer). answerOf b first ∷ answers) (answered-in-turn (bookAfter b first) earlier call later)

@@ -21,7 +21,8 @@ use Rattle.book.specs.Prefixes.{Edge, Walked}
 use Rattle.cuts.specs.Blocks.{Block, blocksOf}
 use Rattle.cuts.specs.Edges.{Vocabulary, walksOf, Edges, edges, stopped, before, edgesWithin}
 use Rattle.cuts.specs.Tokens.{Span, Written, written, put, hasPlace, tokenOf, tokenWidth}
-use Rattle.cuts.specs.Cuts.{CutAnswer, answer, andThen, Base, putSpans, cutEdges, cutBlock, searchEdges, searchBlock, spansOf, putWalks, cutAllBlock, cutBlocks, Tested, cutChars, cutWith}
+use Rattle.cuts.specs.Cuts.{CutAnswer, answer, andThen, Base, putSpans, cutEdges, cutBlock, searchEdges, searchBlock, spansOf, putWalks, cutAllBlock}
+use Rattle.cuts.specs.Cuts.{cutBlocks, Tested, cutChars, cutWith}
 use Rattle.cuts.proofs.Sequence.{goes-on, stops}
 
 abbrev pub Fine : CutAnswer → Type 0
@@ -74,7 +75,8 @@ module _ (words : ℕ → List ℕ → Walked) (sound : (at : ℕ) (cs : List �
         ]
       ])
       by rest true = other EdgesFull (λ z. omega arith)
-      by rest false = rw (sound at (c ∷ cs)) (fine-before (words at (c ∷ cs) .edges) (edgesWithin (room - length (words at (c ∷ cs) .edges)) (walksOf words (at + 1) cs)) rest)
+      by rest false = rw (sound at (c ∷ cs)) (fine-before (words at (c ∷ cs) .edges)
+          (edgesWithin (room - length (words at (c ∷ cs) .edges)) (walksOf words (at + 1) cs)) rest)
 
   fine-walks : (base : Base) (chars cs : List ℕ) (at from : ℕ) (w : Written) → Fine (putWalks base chars from w (walksOf words at cs))
   unfolding putWalks walksOf
@@ -88,11 +90,13 @@ module _ (words : ℕ → List ℕ → Walked) (sound : (at : ℕ) (cs : List �
 -- ---- blocks
 
 module _ (v : Vocabulary) (sound : (at : ℕ) (cs : List ℕ) → v .words at cs .damaged ≡ false) where
-  fine-cut-edges : (logTotal : Float) (base : Base) (chars : List ℕ) (w : Written) (e : Edges) → FineEdges (v .words) sound e → Fine (cutEdges logTotal base chars w e)
+  fine-cut-edges : (logTotal : Float) (base : Base) (chars : List ℕ) (w : Written) (e : Edges) → FineEdges (v .words) sound e
+      → Fine (cutEdges logTotal base chars w e)
   fine-cut-edges logTotal base chars w (edges rows) f = fine-spans base chars _ w
   fine-cut-edges logTotal base chars w (stopped o) f = f
 
-  fine-search-edges : (logTotal : Float) (base : Base) (chars : List ℕ) (w : Written) (e : Edges) → FineEdges (v .words) sound e → Fine (searchEdges logTotal base chars w e)
+  fine-search-edges : (logTotal : Float) (base : Base) (chars : List ℕ) (w : Written) (e : Edges) → FineEdges (v .words) sound e
+      → Fine (searchEdges logTotal base chars w e)
   fine-search-edges logTotal base chars w (edges rows) f = fine-spans base chars _ w
   fine-search-edges logTotal base chars w (stopped o) f = f
 
@@ -101,7 +105,8 @@ module _ (v : Vocabulary) (sound : (at : ℕ) (cs : List ℕ) → v .words at cs
   fine-cut room base b w = by (b .matched)
     where
       by : (m : Bool) → Fine (cutBlock v room base (record { matched = m; chars = b .chars }) w)
-      by true = fine-cut-edges (logFloat (v .total)) base (b .chars) w (edgesWithin room (walksOf (v .words) 0 (b .chars))) (fine-edges (v .words) sound 0 (b .chars) room)
+      by true = fine-cut-edges (logFloat (v .total)) base (b .chars) w (edgesWithin room (walksOf (v .words) 0 (b .chars)))
+          (fine-edges (v .words) sound 0 (b .chars) room)
       by false = fine-spans base (b .chars) _ w
 
   pub fine-search : (room : ℕ) (base : Base) (b : Block) (w : Written) → Fine (searchBlock v room base b w)
@@ -109,7 +114,8 @@ module _ (v : Vocabulary) (sound : (at : ℕ) (cs : List ℕ) → v .words at cs
   fine-search room base b w = by (b .matched)
     where
       by : (m : Bool) → Fine (searchBlock v room base (record { matched = m; chars = b .chars }) w)
-      by true = fine-search-edges (logFloat (v .total)) base (b .chars) w (edgesWithin room (walksOf (v .words) 0 (b .chars))) (fine-edges (v .words) sound 0 (b .chars) room)
+      by true = fine-search-edges (logFloat (v .total)) base (b .chars) w (edgesWithin room (walksOf (v .words) 0 (b .chars)))
+          (fine-edges (v .words) sound 0 (b .chars) room)
       by false = fine-spans base (b .chars) _ w
 
   pub fine-all : (base : Base) (b : Block) (w : Written) → Fine (cutAllBlock v base b w)
@@ -135,7 +141,8 @@ pub fine-tests : (t : Tested) (work : ℕ) (area sentence : List ℕ) (cutting :
 unfolding cutWith
 fine-tests t work area sentence cutting sound fine = by-sizes (t .sizes && eqb (length area % tokenWidth) 0)
   where
-    by-work : (cs : List ℕ) (z : Bool) → Fine (cond z (answer WorkTooShort (written 0 area)) (cond (t .damage) (answer Damaged (written 0 area)) (cutting cs (written 0 area))))
+    by-work : (cs : List ℕ) (z : Bool) → Fine (cond z (answer WorkTooShort (written 0 area))
+        (cond (t .damage) (answer Damaged (written 0 area)) (cutting cs (written 0 area))))
     by-work cs true = other WorkTooShort (λ z. omega arith)
     by-work cs false = rw sound (fine cs (written 0 area))
 
@@ -148,6 +155,7 @@ fine-tests t work area sentence cutting sound fine = by-sizes (t .sizes && eqb (
     by-length false = other TooLong (λ z. omega arith)
 
     by-sizes : (z : Bool)
-        → Fine (cond z (cond (leb (length sentence) longestText) (cutChars t work cutting (written 0 area) (charsOf sentence)) (answer TooLong (written 0 area))) (answer BadAreas (written 0 area)))
+        → Fine (cond z (cond (leb (length sentence) longestText) (cutChars t work cutting (written 0 area) (charsOf sentence))
+        (answer TooLong (written 0 area))) (answer BadAreas (written 0 area)))
     by-sizes true = by-length (leb (length sentence) longestText)
     by-sizes false = other BadAreas (λ z. omega arith)

@@ -35,7 +35,8 @@ stretch sentence from more = take (suc more) (drop from (charactersOf sentence))
 -- "every stretch of consecutive characters is a word of both books with the same frequency, or a word of neither"
 abbrev pub SameStretches : List Entry → List Entry → List ℕ → Type 0
 SameStretches ledger ledger′ sentence =
-    (from more : ℕ) → from + suc more ≤ length (charactersOf sentence) → frequencyIn ledger (stretch sentence from more) ≡ frequencyIn ledger′ (stretch sentence from more)
+    (from more : ℕ) → from + suc more ≤ length (charactersOf sentence)
+    → frequencyIn ledger (stretch sentence from more) ≡ frequencyIn ledger′ (stretch sentence from more)
 
 -- ---- the areas
 

@@ -1,4 +1,5 @@
--- Reading, by the bytes that the code tests. A lead byte and the tests of the bytes after it either spell a scalar value, whose encoding they are, or leave no value whose encoding they could be.
+-- Reading, by the bytes that the code tests. A lead byte and the tests of the bytes after it either spell a scalar value, whose encoding they are, or
+-- leave no value whose encoding they could be.
 -- Assumes nothing.
 use mathlib.Core.Path.{_≡_, refl, sym, ap, _∙_}
 use mathlib.Core.Bool.{Bool, true, false}
@@ -75,24 +76,36 @@ module _ (P : Type 0) (b0 : ℕ) (bs : List ℕ) (c : ℕ) (rest : List ℕ) (e 
       two (record { from = x; to = y; lead = p .0; room = rw (p .1) (omega arith); second = rw (p .1) }) (ap length (encode-2 c x y))
   by-range s (inr x) (inr y) (inl z) =
       let p = as-three b0 bs rest c _ _ _ (encode-3 c y z) e in
-      three (record { from = y; to = z; whole = not-surrogate c s; lead = p .0; room = rw (p .1) (omega arith); second = rw (p .1); third = rw (p .1) }) (ap length (encode-3 c y z))
+      three (record {
+        from = y;
+        to = z;
+        whole = not-surrogate c s;
+        lead = p .0;
+        room = rw (p .1) (omega arith);
+        second = rw (p .1);
+        third =
+            rw (p .1);
+      }) (ap length (encode-3 c y z))
   by-range (inl s) (inr x) (inr y) (inr z) = absurd (omega arith)
   by-range (inr s) (inr x) (inr y) (inr z) =
       let p = as-four b0 bs rest c _ _ _ _ (encode-4 c z) e in
-      four (record { from = z; to = s .1; lead = p .0; room = rw (p .1) (omega arith); second = rw (p .1); third = rw (p .1); fourth = rw (p .1) }) (ap length (encode-4 c z))
+      four (record { from = z; to = s .1; lead = p .0; room = rw (p .1) (omega arith); second = rw (p .1); third = rw (p .1); fourth = rw (p .1) })
+      (ap length (encode-4 c z))
 
   by-width : Scalar c → P
   by-width s = by-range s (below c 0x80) (below c 0x800) (below c 0x10000)
 
 -- where no value's encoding begins the bytes, they are malformed
-module _ (b0 : ℕ) (bs : List ℕ) (high : 0x80 ≤ b0) (not-two : (c : ℕ) → Two b0 bs c → ⊥) (not-three : (c : ℕ) → Three b0 bs c → ⊥) (not-four : (c : ℕ) → Four b0 bs c → ⊥) where
+module _ (b0 : ℕ) (bs : List ℕ) (high : 0x80 ≤ b0) (not-two : (c : ℕ) → Two b0 bs c → ⊥) (not-three : (c : ℕ) → Three b0 bs c → ⊥)
+    (not-four : (c : ℕ) → Four b0 bs c → ⊥) where
   pub malformed : Malformed ≡ readFrom (b0 ∷ bs)
   malformed = go (readFrom (b0 ∷ bs)) refl
     where
       go : (r : Character) → readFrom (b0 ∷ bs) ≡ r → Malformed ≡ readFrom (b0 ∷ bs)
       go (Char c w) e =
           let q = reads-only-encodings (b0 ∷ bs) c w e in
-          absurd (by-width ⊥ b0 bs c (drop w (b0 ∷ bs)) (q .2) (λ l same n. omega arith) (λ t n. not-two c t) (λ t n. not-three c t) (λ t n. not-four c t) (q .0))
+          absurd (by-width ⊥ b0 bs c (drop w (b0 ∷ bs)) (q .2) (λ l same n. omega arith) (λ t n. not-two c t) (λ t n. not-three c t)
+          (λ t n. not-four c t) (q .0))
       go Malformed e = sym e
       go End e = let n : b0 ∷ bs ≡ [] = end-nil (b0 ∷ bs) e in let z : _≡_ {A = ℕ} 0 1 = cc in absurd (omega arith)
 
@@ -132,7 +145,8 @@ module _ (b0 b1 c : ℕ) (rest : List ℕ) (t1 : Tail b1) (lead : (0x80 ≤ b0) 
       by-encoding v 2 (b0 ∷ b1 ∷ []) rest (inl (omega arith)) (encode-2 v (omega arith) (omega arith) ∙ rw (x, y)) refl
 
 -- three bytes
-module _ (b0 b1 b2 c : ℕ) (rest : List ℕ) (t1 : Tail b1) (t2 : Tail b2) (lead : (0xE0 ≤ b0) × (b0 < 0xF0)) (e : c ≡ (b0 * 0x40 + b1) * 0x40 + b2) (v : ℕ) (q : v + 0xE2080 ≡ c) where
+module _ (b0 b1 b2 c : ℕ) (rest : List ℕ) (t1 : Tail b1) (t2 : Tail b2) (lead : (0xE0 ≤ b0) × (b0 < 0xF0)) (e : c ≡ (b0 * 0x40 + b1) * 0x40 + b2)
+    (v : ℕ) (q : v + 0xE2080 ≡ c) where
   refused-3 : ((x : ℕ) → 0x800 ≤ x → (x / 0x800 ≡ 27 → ⊥) → v ≡ x → ⊥) → Malformed ≡ readFrom (b0 ∷ b1 ∷ b2 ∷ rest)
   refused-3 f =
       malformed b0 (b1 ∷ b2 ∷ rest) (omega arith)
@@ -158,7 +172,8 @@ module _ (b0 b1 b2 c : ℕ) (rest : List ℕ) (t1 : Tail b1) (t2 : Tail b2) (lea
       off (inr y) = inr (omega arith, omega arith)
 
 -- four bytes
-module _ (b0 b1 b2 b3 c : ℕ) (rest : List ℕ) (t1 : Tail b1) (t2 : Tail b2) (t3 : Tail b3) (lead : 0xF0 ≤ b0) (e : c ≡ ((b0 * 0x40 + b1) * 0x40 + b2) * 0x40 + b3) (v : ℕ) (q : v + 0x3C82080 ≡ c) where
+module _ (b0 b1 b2 b3 c : ℕ) (rest : List ℕ) (t1 : Tail b1) (t2 : Tail b2) (t3 : Tail b3) (lead : 0xF0 ≤ b0)
+    (e : c ≡ ((b0 * 0x40 + b1) * 0x40 + b2) * 0x40 + b3) (v : ℕ) (q : v + 0x3C82080 ≡ c) where
   refused-4 : ((x : ℕ) → 0x10000 ≤ x → x ≤ 0x10FFFF → v ≡ x → ⊥) → Malformed ≡ readFrom (b0 ∷ b1 ∷ b2 ∷ b3 ∷ rest)
   refused-4 f =
       malformed b0 (b1 ∷ b2 ∷ b3 ∷ rest) (omega arith)
@@ -247,7 +262,8 @@ module _ (s : List ℕ) (at b0 : ℕ) (e0 : b0 ≡ getD s at 0) where
       unfolding characterAt
       at-3 r h q = q (drop (at + 3) s) ∙ ap readFrom (sym (from-3 h))
 
-      pub at-4 : (b3 : ℕ) (r : Character) → b3 ≡ getD s (at + 3) 0 → at + 3 < length s → ((rest : List ℕ) → r ≡ readFrom (b0 ∷ b1 ∷ b2 ∷ b3 ∷ rest)) → r ≡ characterAt s at
+      pub at-4 : (b3 : ℕ) (r : Character) → b3 ≡ getD s (at + 3) 0 → at + 3 < length s → ((rest : List ℕ) → r ≡ readFrom (b0 ∷ b1 ∷ b2 ∷ b3 ∷ rest))
+          → r ≡ characterAt s at
       unfolding characterAt
       at-4 b3 r e3 h q =
           let from-4 : drop at s ≡ b0 ∷ b1 ∷ b2 ∷ b3 ∷ drop (at + 4) s =
@@ -351,7 +367,13 @@ module _ (s : List ℕ) (at : ℕ) (within : at < length s) (some-chars : IsSome
             (λ low e. absurd (omega arith))
             (λ c t e. absurd (omega (arith, t .lead, t .to)))
             (λ c t e. absurd (omega (arith, t .lead, t .to)))
-            (λ c t e. spells _ _ _ c (omega (arith, spelled-4 b0 later c t, byte 0 (at + 1) b1 (omega arith) e1, byte 1 (at + 2) b2 (omega arith) e2, byte 2 (at + 3) b3 (omega arith) e3)) e)
+            (λ c t e. spells _ _ _ c (omega (
+              arith,
+              spelled-4 b0 later c t,
+              byte 0 (at + 1) b1 (omega arith) e1,
+              byte 1 (at + 2) b2 (omega arith) e2,
+              byte 2 (at + 3) b3 (omega arith) e3,
+            )) e)
 
 pub at-end : (s : List ℕ) (at : ℕ) → length s ≤ at → End ≡ characterAt s at
 unfolding characterAt readFrom

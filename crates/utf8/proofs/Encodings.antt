@@ -1,5 +1,6 @@
 -- `readFrom` reads exactly the encodings of scalar values.
--- A sequence of RFC 3629's syntax bounds each of its octets, so the number that it spells is a scalar value of the sequence's width, and that number's encoding is the sequence again.
+-- A sequence of RFC 3629's syntax bounds each of its octets, so the number that it spells is a scalar value of the sequence's width, and that number's
+-- encoding is the sequence again.
 -- Back: a scalar value lies within the numbers of one sequence. The sequences before it in the list have smaller lead octets, so they are passed over.
 -- Assumes nothing.
 use mathlib.Core.Path.{_≡_, refl, sym, ap, _∙_}
@@ -156,19 +157,24 @@ all-sound = (
   (
     sound-2,
     (
-      sound-3 (octets 0xE0 0xE0) (octets 0xA0 0xBF) (omega arith) (omega arith) (omega arith) (omega arith) (λ a b c a0 a1 b0 b1. (omega arith, inl (omega arith))),
+      sound-3 (octets 0xE0 0xE0) (octets 0xA0 0xBF) (omega arith) (omega arith) (omega arith) (omega arith)
+          (λ a b c a0 a1 b0 b1. (omega arith, inl (omega arith))),
       (
         sound-3 (octets 0xE1 0xEC) tail (omega arith) (omega arith) (omega arith) (omega arith) (λ a b c a0 a1 b0 b1. (omega arith, inl (omega arith))),
         (
-          sound-3 (octets 0xED 0xED) (octets 0x80 0x9F) (omega arith) (omega arith) (omega arith) (omega arith) (λ a b c a0 a1 b0 b1. (omega arith, inl (omega arith))),
+          sound-3 (octets 0xED 0xED) (octets 0x80 0x9F) (omega arith) (omega arith) (omega arith) (omega arith)
+              (λ a b c a0 a1 b0 b1. (omega arith, inl (omega arith))),
           (
-            sound-3 (octets 0xEE 0xEF) tail (omega arith) (omega arith) (omega arith) (omega arith) (λ a b c a0 a1 b0 b1. (omega arith, inr (omega arith, omega arith))),
+            sound-3 (octets 0xEE 0xEF) tail (omega arith) (omega arith) (omega arith) (omega arith)
+                (λ a b c a0 a1 b0 b1. (omega arith, inr (omega arith, omega arith))),
             (
-              sound-4 (octets 0xF0 0xF0) (octets 0x90 0xBF) (omega arith) (omega arith) (omega arith) (omega arith) (λ a b c d a0 a1 b0 b1. (omega arith, omega arith)),
+              sound-4 (octets 0xF0 0xF0) (octets 0x90 0xBF) (omega arith) (omega arith) (omega arith) (omega arith)
+                  (λ a b c d a0 a1 b0 b1. (omega arith, omega arith)),
               (
                 sound-4 (octets 0xF1 0xF3) tail (omega arith) (omega arith) (omega arith) (omega arith) (λ a b c d a0 a1 b0 b1. (omega arith, omega arith)),
                 (
-                  sound-4 (octets 0xF4 0xF4) (octets 0x80 0x8F) (omega arith) (omega arith) (omega arith) (omega arith) (λ a b c d a0 a1 b0 b1. (omega arith, omega arith)),
+                  sound-4 (octets 0xF4 0xF4) (octets 0x80 0x8F) (omega arith) (omega arith) (omega arith) (omega arith)
+                      (λ a b c d a0 a1 b0 b1. (omega arith, omega arith)),
                   tt,
                 ),
               ),
@@ -222,7 +228,8 @@ passed ((r ∷ rs) ∷ rows) rest m a bs h l =
     let q : r .last < m = lib.Dec.ltb→lt _ _ (p .0) in
     rw (no-lead r rs a bs (omega arith)) (passed rows rest m a bs (p .1) l)
 
-taken : (s : List Octets) (rest : List (List Octets)) (bs : List ℕ) → startsWith s bs ≡ true → readBy (s ∷ rest) bs ≡ Char (characterNumber (take (length s) bs)) (length s)
+taken : (s : List Octets) (rest : List (List Octets)) (bs : List ℕ) → startsWith s bs ≡ true
+    → readBy (s ∷ rest) bs ≡ Char (characterNumber (take (length s) bs)) (length s)
 taken s rest bs e = rw e
 
 -- the sequence r t, whose lead is above those of the sequences before it, reads three octets; and four
@@ -241,7 +248,16 @@ read-4 : (pre rest : List (List Octets)) (r t : Octets) (a b c d n : ℕ) (bs : 
 read-4 pre rest r t a b c d n bs before e a0 a1 b0 b1 c0 c1 d0 d1 =
     passed pre ((r ∷ t ∷ tail ∷ tail ∷ []) ∷ rest) (r .first) a (b ∷ c ∷ d ∷ bs) before a0
     ∙ taken (r ∷ t ∷ tail ∷ tail ∷ []) rest (a ∷ b ∷ c ∷ d ∷ bs)
-    (rw (le-leb (r .first) a a0, le-leb a (r .last) a1, le-leb (t .first) b b0, le-leb b (t .last) b1, le-leb 0x80 c c0, le-leb c 0xBF c1, le-leb 0x80 d d0, le-leb d 0xBF d1))
+    (rw (
+      le-leb (r .first) a a0,
+      le-leb a (r .last) a1,
+      le-leb (t .first) b b0,
+      le-leb b (t .last) b1,
+      le-leb 0x80 c c0,
+      le-leb c 0xBF c1,
+      le-leb 0x80 d d0,
+      le-leb d 0xBF d1,
+    ))
     ∙ ap (λ (m : ℕ). Char m 4) e
 
 -- a number is below m or not
@@ -283,7 +299,8 @@ digits-4 n =
     sum : (u x v y z : ℕ) → u * 0x40 + x ≡ v → v * 0x1000 + y * 0x40 + z ≡ n → u * 0x40000 + x * 0x1000 + y * 0x40 + z ≡ n
     sum u x v y z a b = omega arith
 
-value-4 : (n a b c d : ℕ) → n ≤ 0x10FFFF → a ≡ 0xF0 + n / 0x40000 → b ≡ 0x80 + n / 0x1000 % 0x40 → c ≡ 0x80 + n / 0x40 % 0x40 → d ≡ 0x80 + n % 0x40 → number-4 a b c d ≡ n
+value-4 : (n a b c d : ℕ) → n ≤ 0x10FFFF → a ≡ 0xF0 + n / 0x40000 → b ≡ 0x80 + n / 0x1000 % 0x40 → c ≡ 0x80 + n / 0x40 % 0x40 → d ≡ 0x80 + n % 0x40
+    → number-4 a b c d ≡ n
 value-4 n a b c d h ea eb ec ed =
     let a' : a % 0x08 ≡ n / 0x40000 = omega arith in
     let b' : b % 0x40 ≡ n / 0x1000 % 0x40 = omega arith in
@@ -292,7 +309,8 @@ value-4 n a b c d h ea eb ec ed =
     rw (a', b', c', d') (digits-4 n)
 
 -- and one from U+10000 to U+10FFFF
-reads-4 : (n a b c d : ℕ) (bs : List ℕ) → 0x10000 ≤ n → n ≤ 0x10FFFF → a ≡ 0xF0 + n / 0x40000 → b ≡ 0x80 + n / 0x1000 % 0x40 → c ≡ 0x80 + n / 0x40 % 0x40 → d ≡ 0x80 + n % 0x40
+reads-4 : (n a b c d : ℕ) (bs : List ℕ) → 0x10000 ≤ n → n ≤ 0x10FFFF → a ≡ 0xF0 + n / 0x40000 → b ≡ 0x80 + n / 0x1000 % 0x40
+    → c ≡ 0x80 + n / 0x40 % 0x40 → d ≡ 0x80 + n % 0x40
     → (n < 0x40000) ⊎ (0x40000 ≤ n) → (n < 0x100000) ⊎ (0x100000 ≤ n) → readBy sequences (a ∷ b ∷ c ∷ d ∷ bs) ≡ Char n 4
 reads-4 n a b c d bs l h ea eb ec ed (inl x) y =
     read-4 (take 6 sequences) (drop 7 sequences) (octets 0xF0 0xF0) (octets 0x90 0xBF) a b c d n bs tt
@@ -317,7 +335,8 @@ reads-2 n a b bs l h ea eb =
     ∙ ap (λ (m : ℕ). Char m 2) v
 
 -- the encoding's bytes, and reading them, by the value's range
-encoded : (c : ℕ) (rest : List ℕ) → Scalar c → (c < 0x80) ⊎ (0x80 ≤ c) → (c < 0x800) ⊎ (0x800 ≤ c) → (c < 0x10000) ⊎ (0x10000 ≤ c) → readFrom (encode c ++ rest) ≡ Char c (length (encode c))
+encoded : (c : ℕ) (rest : List ℕ) → Scalar c → (c < 0x80) ⊎ (0x80 ≤ c) → (c < 0x800) ⊎ (0x800 ≤ c) → (c < 0x10000) ⊎ (0x10000 ≤ c)
+    → readFrom (encode c ++ rest) ≡ Char c (length (encode c))
 unfolding readFrom
 encoded c rest s (inl x) y z = rw (encode-1 c x) (reads-1 c rest x)
 encoded c rest s (inr x) (inl y) z = rw (encode-2 c x y) (reads-2 c _ _ rest x y refl refl)

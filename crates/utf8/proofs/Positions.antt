@@ -100,7 +100,8 @@ module _ (s : List ℕ) (at : ℕ) (xs ys : List ℕ) (e : charsFrom s at ≡ so
   pub from-second : charsFrom s (at + byteLength xs) ≡ some ys
   unfolding charsFrom byteLength
   from-second =
-      ap charsOf (sym (drop-drop (length (encodeText xs)) at s) ∙ ap (drop (length (encodeText xs))) (sym bytes) ∙ drop-append-seam (encodeText xs) (encodeText ys))
+      ap charsOf (sym (drop-drop (length (encodeText xs)) at s) ∙ ap (drop (length (encodeText xs))) (sym bytes)
+      ∙ drop-append-seam (encodeText xs) (encodeText ys))
       ∙ texts-of-encodings ys (append-scalars xs ys (parts .0) .1)
 
   pub first-bytes : charsOf (take (byteLength xs) (drop at s)) ≡ some xs
@@ -112,7 +113,8 @@ module _ (s : List ℕ) (at : ℕ) (xs ys : List ℕ) (e : charsFrom s at ≡ so
   pub within-text : at ≤ length s → at + byteLength xs + byteLength ys ≤ length s
   unfolding byteLength
   within-text h =
-      let l : length (encodeText xs) + length (encodeText ys) ≡ length s - at = sym (length-append (encodeText xs) (encodeText ys)) ∙ ap length bytes ∙ length-drop at s in
+      let l : length (encodeText xs) + length (encodeText ys) ≡ length s - at = sym (length-append (encodeText xs) (encodeText ys)) ∙ ap length bytes
+      ∙ length-drop at s in
       omega arith
 
 -- nothing is left only at the end

@@ -1,5 +1,6 @@
 -- `charsOf`, by what stands at the text's start, and the claims about whole texts.
--- `charsWithin` counts down with each character, and a character has at least one byte. So any count that is at least the text's length gives the same, and a text's characters are its first one before those of the rest.
+-- `charsWithin` counts down with each character, and a character has at least one byte. So any count that is at least the text's length gives the same,
+-- and a text's characters are its first one before those of the rest.
 -- Assumes nothing.
 use mathlib.Core.Path.{_≡_, refl, sym, ap, subst, _∙_}
 use mathlib.Core.Bool.{Bool, true, false, cond}
@@ -82,7 +83,8 @@ counted (suc n) zero [] h k = refl
 counted (suc n) zero (b ∷ bs) h k = absurd (omega arith)
 counted (suc n) (suc m) bs h k = go (readFrom bs) refl (λ w p q. counted n m (drop w bs) (rw (length-drop w bs) p) (rw (length-drop w bs) q))
   where
-    go : (r : Character) → readFrom bs ≡ r → ((w : ℕ) → length bs - w ≤ n → length bs - w ≤ m → charsWithin n (drop w bs) ≡ charsWithin m (drop w bs)) → charsWithin (suc n) bs ≡ charsWithin (suc m) bs
+    go : (r : Character) → readFrom bs ≡ r → ((w : ℕ) → length bs - w ≤ n → length bs - w ≤ m → charsWithin n (drop w bs) ≡ charsWithin m (drop w bs))
+        → charsWithin (suc n) bs ≡ charsWithin (suc m) bs
     go (Char c w) e rest =
         let s = width bs c w e in
         within-char n bs c w e ∙ ap (before c) (rest w (omega arith) (omega arith)) ∙ sym (within-char m bs c w e)
@@ -151,7 +153,8 @@ only-within zero [] cs h e = only-none [] cs none-there e
 only-within zero (b ∷ bs) cs h e = absurd (omega arith)
 only-within (suc n) bs cs h e = go (readFrom bs) refl (λ w k ds q. only-within n (drop w bs) ds k q)
   where
-    go : (r : Character) → readFrom bs ≡ r → ((w : ℕ) → length (drop w bs) ≤ n → (ds : List ℕ) → charsOf (drop w bs) ≡ some ds → Scalars ds × (encodeText ds ≡ drop w bs)) → Scalars cs × (encodeText cs ≡ bs)
+    go : (r : Character) → readFrom bs ≡ r → ((w : ℕ) → length (drop w bs) ≤ n → (ds : List ℕ) → charsOf (drop w bs) ≡ some ds
+        → Scalars ds × (encodeText ds ≡ drop w bs)) → Scalars cs × (encodeText cs ≡ bs)
     go (Char c w) p rest =
         let s = width bs c w p in
         only-first bs cs c w (charsOf (drop w bs)) p (sym (chars-char bs c w p) ∙ e) (rest w (rw (length-drop w bs) (omega arith)))

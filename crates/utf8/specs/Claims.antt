@@ -1,4 +1,5 @@
--- What is claimed of the definitions of `Characters` and `Text`: they read exactly the encodings of scalar values. Proofs: `proofs/Encodings.antt`, `proofs/Texts.antt`.
+-- What is claimed of the definitions of `Characters` and `Text`: they read exactly the encodings of scalar values. Proofs: `proofs/Encodings.antt`,
+-- `proofs/Texts.antt`.
 -- Assumes nothing.
 use Prim.Native.Nat.{ℕ}
 use mathlib.Core.Path.{_≡_}

@@ -77,7 +77,8 @@ fn two_bytes(c: u32) -> Character
 // values from U+D800, the 27th such run.
 fn three_bytes(c: u32) -> Character
     requires { ⌜ 0xE_2080 ≤ c ⌝ }
-    ensures { λ r. ⌜ ((b0 b1 b2 : ℕ) (rest : List ℕ) → Tail b1 → Tail b2 → (0xE0 ≤ b0) × (b0 < 0xF0) → c ≡ (b0 * 0x40 + b1) * 0x40 + b2 → r ≡ readFrom (b0 ∷ b1 ∷ b2 ∷ rest)) ⌝ }
+    ensures { λ r. ⌜ ((b0 b1 b2 : ℕ) (rest : List ℕ) → Tail b1 → Tail b2 → (0xE0 ≤ b0) × (b0 < 0xF0) → c ≡ (b0 * 0x40 + b1) * 0x40 + b2
+        → r ≡ readFrom (b0 ∷ b1 ∷ b2 ∷ rest)) ⌝ }
 {
     let value = c - THREE_MARKS;
     let run = value / 0x800;
@@ -93,7 +94,8 @@ fn three_bytes(c: u32) -> Character
 // What a lead byte from 0xF0 and three tails spell. Below U+10000 it is an overlong form, and U+10FFFF is the last.
 fn four_bytes(c: u32) -> Character
     requires { ⌜ 0x3C8_2080 ≤ c ⌝ }
-    ensures { λ r. ⌜ ((b0 b1 b2 b3 : ℕ) (rest : List ℕ) → Tail b1 → Tail b2 → Tail b3 → 0xF0 ≤ b0 → c ≡ ((b0 * 0x40 + b1) * 0x40 + b2) * 0x40 + b3 → r ≡ readFrom (b0 ∷ b1 ∷ b2 ∷ b3 ∷ rest)) ⌝ }
+    ensures { λ r. ⌜ ((b0 b1 b2 b3 : ℕ) (rest : List ℕ) → Tail b1 → Tail b2 → Tail b3 → 0xF0 ≤ b0 → c ≡ ((b0 * 0x40 + b1) * 0x40 + b2) * 0x40 + b3
+        → r ≡ readFrom (b0 ∷ b1 ∷ b2 ∷ b3 ∷ rest)) ⌝ }
 {
     let value = c - FOUR_MARKS;
     if value < 0x1_0000 {

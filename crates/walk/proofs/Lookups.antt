@@ -45,9 +45,11 @@ module _ (t : CharTrie) (p : ParentRef) (ch : ℕ) where
 -- the steps of some characters from a place lead where those of the whole word lead from the root, whatever the word numbers are
 abbrev pub SameWalk : List ℕ → List ℕ → List ℕ → ParentRef → Option (List ℕ) → Option (List ℕ) → Type 0
 SameWalk rootChildren keys children p chars whole =
-    (rootWords words : List ℤ) → walkFrom (trieOf rootChildren rootWords keys children words) p chars ≡ walkFrom (trieOf rootChildren rootWords keys children words) Root whole
+    (rootWords words : List ℤ) → walkFrom (trieOf rootChildren rootWords keys children words) p chars
+    ≡ walkFrom (trieOf rootChildren rootWords keys children words) Root whole
 
-module _ (rootChildren keys children : List ℕ) (p : ParentRef) (s : List ℕ) (at : ℕ) (whole : Option (List ℕ)) (same : SameWalk rootChildren keys children p (charsFrom s at) whole) where
+module _ (rootChildren keys children : List ℕ) (p : ParentRef) (s : List ℕ) (at : ℕ) (whole : Option (List ℕ))
+    (same : SameWalk rootChildren keys children p (charsFrom s at) whole) where
   -- where the word's steps lead
   abbrev Leads : Step → Type 0
   Leads r = (rootWords words : List ℤ) → r ≡ walkFrom (trieOf rootChildren rootWords keys children words) Root whole
@@ -56,16 +58,20 @@ module _ (rootChildren keys children : List ℕ) (p : ParentRef) (s : List ℕ) 
   unfolding walkFrom walk
   walk-end h rootWords words = rw (from-end s at h) at (same rootWords words)
 
-  module _ (ch w : ℕ) (read : characterAt s at ≡ Char ch w) (r : Step) (step : (rootWords words : List ℤ) → r ≡ testedStep (trieOf rootChildren rootWords keys children words) p ch) where
+  module _ (ch w : ℕ) (read : characterAt s at ≡ Char ch w) (r : Step)
+      (step : (rootWords words : List ℤ) → r ≡ testedStep (trieOf rootChildren rootWords keys children words) p ch) where
     pub walk-next : (q : ParentRef) → r ≡ At q → SameWalk rootChildren keys children q (charsFrom s (at + w)) whole
-    walk-next q e rootWords words = walk-char _ p ch q (charsFrom s (at + w)) (sym (step rootWords words) ∙ e) ∙ rw (from-char s at ch w read) at (same rootWords words)
+    walk-next q e rootWords words = walk-char _ p ch q (charsFrom s (at + w)) (sym (step rootWords words) ∙ e)
+        ∙ rw (from-char s at ch w read) at (same rootWords words)
 
     pub walk-nothing : r ≡ Nothing → Leads Nothing
-    walk-nothing e rootWords words = walk-stops _ p ch (charsFrom s (at + w)) (sym (step rootWords words) ∙ e) ∙ rw (from-char s at ch w read) at (same rootWords words)
+    walk-nothing e rootWords words = walk-stops _ p ch (charsFrom s (at + w)) (sym (step rootWords words) ∙ e)
+        ∙ rw (from-char s at ch w read) at (same rootWords words)
 
     pub walk-damaged : IsSome (charsFrom s at) → r ≡ Damaged → Leads Damaged
     walk-damaged some-chars e rootWords words =
-        walk-breaks _ p ch (charsFrom s (at + w)) (still-chars s at some-chars ch w read) (sym (step rootWords words) ∙ e) ∙ rw (from-char s at ch w read) at (same rootWords words)
+        walk-breaks _ p ch (charsFrom s (at + w)) (still-chars s at some-chars ch w read) (sym (step rootWords words) ∙ e)
+        ∙ rw (from-char s at ch w read) at (same rootWords words)
 
 -- ---- what a lookup finds, by where its steps lead and by the word number there
 
@@ -86,7 +92,8 @@ module _ (used : ℕ) (t : CharTrie) where
   got-damaged (some cs) e = rw (e, getOf)
 
 -- as the code knows them: the walk does not read the word numbers, and the reading of a word number reads nothing else
-module _ (used : ℕ) (rootChildren : List ℕ) (rootWords : List ℤ) (keys children : List ℕ) (words : List ℤ) (chars : Option (List ℕ)) (r : Step) (walked : (rootWords′ words′ : List ℤ) → r ≡ walkFrom (trieOf rootChildren rootWords′ keys children words′) Root chars) where
+module _ (used : ℕ) (rootChildren : List ℕ) (rootWords : List ℤ) (keys children : List ℕ) (words : List ℤ) (chars : Option (List ℕ)) (r : Step)
+    (walked : (rootWords′ words′ : List ℤ) → r ≡ walkFrom (trieOf rootChildren rootWords′ keys children words′) Root chars) where
   abbrev t : CharTrie
   t = trieOf rootChildren rootWords keys children words
 
@@ -96,7 +103,8 @@ module _ (used : ℕ) (rootChildren : List ℕ) (rootWords : List ℤ) (keys chi
   pub get-damaged : r ≡ Damaged → Got.Damaged ≡ gotOf used t chars
   get-damaged e = got-damaged used t chars (sym (walked rootWords words) ∙ e)
 
-  module _ (p : ParentRef) (at : r ≡ At p) (number : WordNumber) (read : (rootChildren′ keys′ children′ : List ℕ) → number ≡ wordAt used (trieOf rootChildren′ rootWords keys′ children′ words) p) where
+  module _ (p : ParentRef) (at : r ≡ At p) (number : WordNumber)
+      (read : (rootChildren′ keys′ children′ : List ℕ) → number ≡ wordAt used (trieOf rootChildren′ rootWords keys′ children′ words) p) where
     by-number : gotByWord number ≡ gotOf used t chars
     by-number = ap gotByWord (read rootChildren keys children) ∙ got-at used t chars p (sym (walked rootWords words) ∙ at)
 
@@ -110,7 +118,8 @@ module _ (used : ℕ) (rootChildren : List ℕ) (rootWords : List ℤ) (keys chi
     get-bad e = ap gotByWord (sym e) ∙ by-number
 
 -- the place whose word number a lookup reads is one of the tables
-walk-leads : (t : CharTrie) → SlotCount (length (t .keys)) → (chars : Option (List ℕ)) (p : ParentRef) → walkFrom t Root chars ≡ At p → Inside (length (t .rootChildren)) (length (t .keys)) p
+walk-leads : (t : CharTrie) → SlotCount (length (t .keys)) → (chars : Option (List ℕ)) (p : ParentRef) → walkFrom t Root chars ≡ At p
+    → Inside (length (t .rootChildren)) (length (t .keys)) p
 unfolding walkFrom
 walk-leads t allowed none p e = let z : _≡_ {A = ℕ} 0 1 = cc in absurd (omega arith)
 walk-leads t allowed (some cs) p e = walks-inside t p cs allowed e
@@ -120,4 +129,5 @@ pub reads-inside : (rootChildren : List ℕ) (rootWords : List ℤ) (keys childr
     → ((rootWords′ words′ : List ℤ) → r ≡ walkFrom (trieOf rootChildren rootWords′ keys children words′) Root chars) → r ≡ At p
     → Inside (length rootWords) (length words) p
 reads-inside rootChildren rootWords keys children words chars r p long allowed walked at =
-    word-inside rootChildren rootWords keys children words p long (walk-leads (trieOf rootChildren rootWords keys children words) allowed chars p (sym (walked rootWords words) ∙ at))
+    word-inside rootChildren rootWords keys children words p long
+    (walk-leads (trieOf rootChildren rootWords keys children words) allowed chars p (sym (walked rootWords words) ∙ at))

@@ -50,20 +50,22 @@ module _ (t : CharTrie) (p : ParentRef) (ch n : ℕ) where
   unserved (c ∷ cs) begins long root = rw (begins, root) (ap₂ Partly (sym long) (sym long))
 
 -- as the code tells them apart
-module _ (rootChildren : List ℕ) (place : ParentRef) (ch : ℕ) (chars : Option (List ℕ)) (begins : BeginsWith ch chars) (x : CharCount) (counted : x ≡ countOf chars) (n : ℕ) (is-count : x ≡ Chars n) (rootWords words : List ℤ) (keys children cs : List ℕ) (all : chars ≡ some cs) where
-  abbrev t : CharTrie
-  t = trieOf rootChildren rootWords keys children words
+module _ (rootChildren : List ℕ) (place : ParentRef) (ch : ℕ) (chars : Option (List ℕ)) (begins : BeginsWith ch chars) (x : CharCount)
+    (counted : x ≡ countOf chars) (n : ℕ) (is-count : x ≡ Chars n) (rootWords words : List ℤ) (keys children cs : List ℕ) (all : chars ≡ some cs)
+  where
+    abbrev t : CharTrie
+    t = trieOf rootChildren rootWords keys children words
 
-  first : BeginsWith ch (some cs)
-  first = rw all at begins
+    first : BeginsWith ch (some cs)
+    first = rw all at begins
 
-  long : length cs ≡ n
-  long = let counts : Chars (length cs) ≡ Chars n = sym (rw all at counted) ∙ is-count in cc
+    long : length cs ≡ n
+    long = let counts : Chars (length cs) ≡ Chars n = sym (rw all at counted) ∙ is-count in cc
 
-  module _ (b : Bool)
-      (tested : (rootWords′ words′ : List ℤ) (keys′ children′ : List ℕ) → b ≡ fromRoot (trieOf rootChildren rootWords′ keys′ children′ words′) place ch) where
-    pub new-from-root : b ≡ true → Partly (n - 1) n ≡ newSteps t place cs
-    new-from-root root = served t place ch n cs first long (sym (tested rootWords words keys children) ∙ root)
+    module _ (b : Bool)
+        (tested : (rootWords′ words′ : List ℤ) (keys′ children′ : List ℕ) → b ≡ fromRoot (trieOf rootChildren rootWords′ keys′ children′ words′) place ch) where
+      pub new-from-root : b ≡ true → Partly (n - 1) n ≡ newSteps t place cs
+      new-from-root root = served t place ch n cs first long (sym (tested rootWords words keys children) ∙ root)
 
-    pub new-below : b ≡ false → Partly n n ≡ newSteps t place cs
-    new-below root = unserved t place ch n cs first long (sym (tested rootWords words keys children) ∙ root)
+      pub new-below : b ≡ false → Partly n n ≡ newSteps t place cs
+      new-below root = unserved t place ch n cs first long (sym (tested rootWords words keys children) ∙ root)

@@ -19,7 +19,8 @@ use Rattle.trie.specs.declared.Step.{Step}
 use Rattle.trie.specs.declared.Step.the-variants.{At, Nothing, Damaged}
 use Rattle.trie.specs.declared.WordNumber.{WordNumber}
 use Rattle.trie.specs.declared.WordNumber.the-variants.{NoWord}
-use Rattle.trie.specs.Trie.{CharTrie, noWord, wordNumber, wordAt, SlotCount, keyOf, nodeAt, fromRoot, probeOf, stepByProbe, rootStep, slotStep, openStep, bitsAt, testedStep, stepFrom, walk, trieOf}
+use Rattle.trie.specs.Trie.{CharTrie, noWord, wordNumber, wordAt, SlotCount, keyOf, nodeAt, fromRoot, probeOf, stepByProbe, rootStep, slotStep, openStep}
+use Rattle.trie.specs.Trie.{bitsAt, testedStep, stepFrom, walk, trieOf}
 use Rattle.trie.specs.Claims.{allOnes}
 use Rattle.trie.proofs.Probes.{found-has-key}
 use Rattle.trie.proofs.Steps.{steps-from-slot, steps-from-root-entry}
@@ -28,7 +29,8 @@ use Rattle.walk.specs.Claims.{FirstStepIsOpen, FirstStepIsTested, OpenSt
 
 -- ---- the root's step
 
-first-by : (t : CharTrie) (ch : ℕ) (below : Bool) → elim below [ true ↦ rootStep t ch | false ↦ slotStep t Root ch ] ≡ cond below (rootStep t ch) (slotStep t Root ch)
+first-by : (t : CharTrie) (ch : ℕ) (below : Bool)
+    → elim below [ true ↦ rootStep t ch | false ↦ slotStep t Root ch ] ≡ cond below (rootStep t ch) (slotStep t Root ch)
 first-by t ch true = refl
 first-by t ch false = refl
 
@@ -107,10 +109,12 @@ walks-inside t q cs allowed e = subst (LeadsInside t) e (walk-inside t allowed c
 
 -- the same of a step that the code has taken, which does not read the word numbers
 module _ (rootChildren keys children : List ℕ) (allowed : SlotCount (length keys)) (p q : ParentRef) (ch : ℕ) (r : Step) (at : r ≡ At q) where
-  pub leads-tested : ((rootWords words : List ℤ) → r ≡ testedStep (trieOf rootChildren rootWords keys children words) p ch) → Inside (length rootChildren) (length keys) q
+  pub leads-tested : ((rootWords words : List ℤ) → r ≡ testedStep (trieOf rootChildren rootWords keys children words) p ch)
+      → Inside (length rootChildren) (length keys) q
   leads-tested step = tested-steps-inside (trieOf rootChildren [] keys children []) p q ch allowed (sym (step [] []) ∙ at)
 
-  pub leads-open : ((rootWords words : List ℤ) → r ≡ openStep (trieOf rootChildren rootWords keys children words) p ch) → Inside (length rootChildren) (length keys) q
+  pub leads-open : ((rootWords words : List ℤ) → r ≡ openStep (trieOf rootChildren rootWords keys children words) p ch)
+      → Inside (length rootChildren) (length keys) q
   leads-open step = open-steps-inside (trieOf rootChildren [] keys children []) p q ch allowed (sym (step [] []) ∙ at)
 
 pub starts-inside : (roots slots : ℕ) → Inside roots slots Root

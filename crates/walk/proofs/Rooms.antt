@@ -29,7 +29,8 @@ module _ (used : ℕ) (t : CharTrie) (p : ParentRef) (ch : ℕ) where
   room-char q none e = refl
   room-char q (some cs) e = rw (e, reach)
 
-  room-stops : (rest : Option (List ℕ)) (r : Room) → IsSome rest → ((cs : List ℕ) → before ch rest ≡ some cs → r ≡ newSteps t p cs) → openStep t p ch ≡ Nothing → r ≡ roomFrom used t p (before ch rest)
+  room-stops : (rest : Option (List ℕ)) (r : Room) → IsSome rest → ((cs : List ℕ) → before ch rest ≡ some cs → r ≡ newSteps t p cs)
+      → openStep t p ch ≡ Nothing → r ≡ roomFrom used t p (before ch rest)
   unfolding roomFrom roomAt reach
   room-stops none r some-chars new e = absurd some-chars
   room-stops (some cs) r some-chars new e = rw (e, reach) (new (ch ∷ cs) refl)
@@ -39,16 +40,19 @@ module _ (used : ℕ) (t : CharTrie) (p : ParentRef) (ch : ℕ) where
   room-breaks none e = refl
   room-breaks (some cs) e = rw (e, reach)
 
-module _ (used : ℕ) (rootChildren : List ℕ) (rootWords : List ℤ) (keys children : List ℕ) (words : List ℤ) (p : ParentRef) (s : List ℕ) (at : ℕ) (found : Room) where
+module _ (used : ℕ) (rootChildren : List ℕ) (rootWords : List ℤ) (keys children : List ℕ) (words : List ℤ) (p : ParentRef) (s : List ℕ) (at : ℕ)
+    (found : Room) where
   abbrev tables : CharTrie
   tables = trieOf rootChildren rootWords keys children words
 
   module _ (same : roomFrom used tables p (charsFrom s at) ≡ found) where
-    pub room-whole : (number : WordNumber) → ((rootChildren′ keys′ children′ : List ℕ) → number ≡ wordAt used (trieOf rootChildren′ rootWords keys′ children′ words) p) → length s ≤ at → Whole number ≡ found
+    pub room-whole : (number : WordNumber) → ((rootChildren′ keys′ children′ : List ℕ)
+        → number ≡ wordAt used (trieOf rootChildren′ rootWords keys′ children′ words) p) → length s ≤ at → Whole number ≡ found
     unfolding roomFrom roomAt reach
     room-whole number read h = ap Whole (read rootChildren keys children) ∙ rw (from-end s at h) at same
 
-    module _ (ch w : ℕ) (read : characterAt s at ≡ Char ch w) (r : Step) (step : (rootWords′ words′ : List ℤ) → r ≡ openStep (trieOf rootChildren rootWords′ keys children words′) p ch) where
+    module _ (ch w : ℕ) (read : characterAt s at ≡ Char ch w) (r : Step)
+        (step : (rootWords′ words′ : List ℤ) → r ≡ openStep (trieOf rootChildren rootWords′ keys children words′) p ch) where
       at-char : roomFrom used tables p (before ch (charsFrom s (at + w))) ≡ found
       at-char = rw (from-char s at ch w read) at same
 
@@ -59,8 +63,10 @@ module _ (used : ℕ) (rootChildren : List ℕ) (rootWords : List ℤ) (keys chi
       room-damaged e = room-breaks used tables p ch (charsFrom s (at + w)) (sym (step rootWords words) ∙ e) ∙ at-char
 
       pub room-missing : IsSome (charsFrom s at) → r ≡ Nothing → (x : Room)
-          → ((rootWords′ words′ : List ℤ) (keys′ children′ cs : List ℕ) → charsOf (take (length s - at) (drop at s)) ≡ some cs → x ≡ newSteps (trieOf rootChildren rootWords′ keys′ children′ words′) p cs)
+          → ((rootWords′ words′ : List ℤ) (keys′ children′ cs : List ℕ) → charsOf (take (length s - at) (drop at s)) ≡ some cs
+          → x ≡ newSteps (trieOf rootChildren rootWords′ keys′ children′ words′) p cs)
           → x ≡ found
       room-missing some-chars e x new =
           let all = part-chars s at ∙ from-char s at ch w read in
-          room-stops used tables p ch (charsFrom s (at + w)) x (still-chars s at some-chars ch w read) (λ cs chars. new rootWords words keys children cs (all ∙ chars)) (sym (step rootWords words) ∙ e) ∙ at-char
+          room-stops used tables p ch (charsFrom s (at + w)) x (still-chars s at some-chars ch w read)
+          (λ cs chars. new rootWords words keys children cs (all ∙ chars)) (sym (step rootWords words) ∙ e) ∙ at-char

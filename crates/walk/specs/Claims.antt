@@ -20,11 +20,14 @@ FirstStepIsTested = (t : CharTrie) (ch : ℕ) → testedStep t Root ch ≡ first
 
 -- a step leads to a root entry or a slot that is there
 abbrev pub OpenStepsInside : Type 0
-OpenStepsInside = (t : CharTrie) (p q : ParentRef) (ch : ℕ) → SlotCount (length (t .keys)) → openStep t p ch ≡ At q → Inside (length (t .rootChildren)) (length (t .keys)) q
+OpenStepsInside = (t : CharTrie) (p q : ParentRef) (ch : ℕ) → SlotCount (length (t .keys)) → openStep t p ch ≡ At q
+    → Inside (length (t .rootChildren)) (length (t .keys)) q
 
 abbrev pub TestedStepsInside : Type 0
-TestedStepsInside = (t : CharTrie) (p q : ParentRef) (ch : ℕ) → SlotCount (length (t .keys)) → testedStep t p ch ≡ At q → Inside (length (t .rootChildren)) (length (t .keys)) q
+TestedStepsInside = (t : CharTrie) (p q : ParentRef) (ch : ℕ) → SlotCount (length (t .keys)) → testedStep t p ch ≡ At q
+    → Inside (length (t .rootChildren)) (length (t .keys)) q
 
 -- and so does a walk from the root
 abbrev pub WalksInside : Type 0
-WalksInside = (t : CharTrie) (q : ParentRef) (cs : List ℕ) → SlotCount (length (t .keys)) → walk t Root cs ≡ At q → Inside (length (t .rootChildren)) (length (t .keys)) q
+WalksInside = (t : CharTrie) (q : ParentRef) (cs : List ℕ) → SlotCount (length (t .keys)) → walk t Root cs ≡ At q
+    → Inside (length (t .rootChildren)) (length (t .keys)) q

@@ -141,7 +141,8 @@ fn walk(root_children: &[u32], keys: &[u64], children: &[u32], shift: u32, s: &[
     requires { ⌜ (length (now children) ≡ length (now keys)) × SlotCount (length (now keys)) ⌝ }
     requires { ⌜ shift ≡ 64 - log2 (length (now keys)) ⌝ }
     requires { ⌜ IsSome (charsOf (now s)) ⌝ }
-    ensures { λ r. ⌜ ((rootWords words : List ℤ) → r ≡ walkFrom (trieOf (was «root_children») rootWords (was keys) (was children) words) Root (charsOf (was s))) ⌝ }
+    ensures { λ r. ⌜ ((rootWords words : List ℤ)
+        → r ≡ walkFrom (trieOf (was «root_children») rootWords (was keys) (was children) words) Root (charsOf (was s))) ⌝ }
 {
     let mut at: usize = 0;
     let mut place = ParentRef::Root;
@@ -195,7 +196,8 @@ pub fn get(
 // each but for a first character that the root table serves.
 fn new_steps(root_children: &[u32], place: ParentRef, ch: u32, s: &[u8]) -> Room
     requires { ⌜ BeginsWith ch (charsOf (now s)) ⌝ }
-    ensures { λ r. ⌜ ((rootWords words : List ℤ) (keys children cs : List ℕ) → charsOf (was s) ≡ some cs → r ≡ newSteps (trieOf (was «root_children») rootWords keys children words) place cs) ⌝ }
+    ensures { λ r. ⌜ ((rootWords words : List ℤ) (keys children cs : List ℕ) → charsOf (was s) ≡ some cs
+        → r ≡ newSteps (trieOf (was «root_children») rootWords keys children words) place cs) ⌝ }
 {
     let CharCount::Chars(nodes) = utf8::char_count(s) else {
         return Room::Damaged;

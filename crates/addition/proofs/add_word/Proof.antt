@@ -47,7 +47,8 @@ returns-3 c =
     let too-many = c .before in
     let told = too-many .before in
     let tested = told .before .before in
-    added-in-numbers (too-frequent _ _ _ _ _ _ (tested .test-word .ensures) (told .enum-told2 .given .1) (omega (arith, too-many .if1 .taken)) (c .not-added3 .ensures))
+    added-in-numbers (too-frequent _ _ _ _ _ _ (tested .test-word .ensures) (told .enum-told2 .given .1) (omega (arith, too-many .if1 .taken))
+    (c .not-added3 .ensures))
 
 shift-of-requires : tie.Need-shift-of-requires
 shift-of-requires c κs =
@@ -98,7 +99,8 @@ returns-4 c =
     let fits = shifted .before in
     let told = fits .before in
     let tested = told .before .before in
-    added-in-numbers (answered _ _ _ _ _ _ (tested .test-word .ensures) (told .enum-told2 .given .1) (omega (arith, fits .if1 .left)) _ _ _ (enters .load-entry .ensures) (c .added-by .ensures))
+    added-in-numbers (answered _ _ _ _ _ _ (tested .test-word .ensures) (told .enum-told2 .given .1) (omega (arith, fits .if1 .left)) _ _ _
+    (enters .load-entry .ensures) (c .added-by .ensures))
 
 pub add-word-spec : {M : Type 1} → statement M
 add-word-spec =

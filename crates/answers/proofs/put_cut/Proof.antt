@@ -28,7 +28,8 @@ returns c =
     let number = put .before .before .before in
     let start = number .before .before .before .before in
     let numbers = number .before .numbers-of in (
-      cut-put (cutAnswer (start .args .cut) (start .args .tokens .now)) _ _ _ _ _ _ (number .number-of .ensures) (numbers .ensures) (start .pre .0) (put .put-answer .ensures .0),
+      cut-put (cutAnswer (start .args .cut) (start .args .tokens .now)) _ _ _ _ _ _ (number .number-of .ensures) (numbers .ensures) (start .pre .0)
+          (put .put-answer .ensures .0),
       cut-within _ _ (numbers .result) (start .args .tokens .now) (put .put-answer .ensures .1) (numbers .ensures .0),
     )
 

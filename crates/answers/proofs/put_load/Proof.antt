@@ -45,8 +45,10 @@ returns : tie.Need-returns
 returns c =
     let put = c .before .before .before in
     let number = put .before .before .before in
-    let load = number .before .before .before .before .before .before .before .before .before .before .before .before .before in
-    (load-put _ _ _ (load .load-dict .ensures .0) _ _ _ _ _ (number .number-of .ensures) (put .put-answer .ensures .0), omega (arith, put .put-answer .ensures .1))
+    let load = number .before .before .before .before .before .before .before .before .before .before .before .before .before in (
+      load-put _ _ _ (load .load-dict .ensures .0) _ _ _ _ _ (number .number-of .ensures) (put .put-answer .ensures .0),
+      omega (arith, put .put-answer .ensures .1),
+    )
 
 pub put-load-spec : {M : Type 1} → statement M
 put-load-spec =

@@ -78,14 +78,23 @@ returns c =
     let called = c .before .before in
     λ b place planned known.
     let entry = lent-outside (called .before .before) in
-    outside (entry .args .plan .mode) b _ _ _ (entry .args .chars .now) (entry .args .run .chars) _ _ (not-true _ (called .before .before .if1 .taken)) (omega (arith, entry .pre .1 .1 .0 .0 .in-chars)) (entry .pre .1 .1 .1 .2)
+    outside (entry .args .plan .mode) b _ _ _ (entry .args .chars .now) (entry .args .run .chars) _ _
+    (not-true _ (called .before .before .if1 .taken)) (omega (arith, entry .pre .1 .1 .0 .0 .in-chars)) (entry .pre .1 .1 .1 .2)
     (called .cut-unmatched .ensures place known)
 
 for-each-prefix-at-every-char-requires : tie.Need-for-each-prefix-at-every-char-requires
 for-each-prefix-at-every-char-requires c κs =
     let pre = lent (c .before .before .before) .pre in
-    let work = pre .1 .1 .0 in
-    (pre .0, ((pre .1 .0 .0, pre .1 .0 .1), ((omega (arith, work .0 .in-chars), omega (arith, work .2), work .0 .in-starts, work .1), (pre .1 .1 .1 .0, pre .1 .1 .1 .1, pre .1 .0 .2))))
+    let work = pre .1 .1 .0 in (
+      pre .0,
+      (
+        (pre .1 .0 .0, pre .1 .0 .1),
+        (
+          (omega (arith, work .0 .in-chars), omega (arith, work .2), work .0 .in-starts, work .1),
+          (pre .1 .1 .1 .0, pre .1 .1 .1 .1, pre .1 .0 .2),
+        ),
+      ),
+    )
 
 enum-told : tie.Need-enum-told
 enum-told c = search needs
@@ -101,8 +110,15 @@ calc-requires c κs =
     let walk = walked (told c .before .before) in
     let entry = lent (of-class walk) in
     let work = entry .pre .1 .1 .0 in (
-      (omega (arith, work .2), omega (arith, work .0 .in-starts, walk .for-each-prefix-at-every-char .kept), work .0 .in-scores, work .0 .in-ends, work .0 .in-records),
-      edges-fit _ (entry .args .logarithms .now) (entry .args .plan .used) _ _ _ _ _ _ _ _ (entry .pre .1 .0 .3) (told c .enum-told3 .given .1) (walk .for-each-prefix-at-every-char .ensures),
+      (
+        omega (arith, work .2),
+        omega (arith, work .0 .in-starts, walk .for-each-prefix-at-every-char .kept),
+        work .0 .in-scores,
+        work .0 .in-ends,
+        work .0 .in-records,
+      ),
+      edges-fit _ (entry .args .logarithms .now) (entry .args .plan .used) _ _ _ _ _ _ _ _ (entry .pre .1 .0 .3) (told c .enum-told3 .given .1)
+          (walk .for-each-prefix-at-every-char .ensures),
     )
 
 cut-route-requires : tie.Need-cut-route-requires
@@ -121,8 +137,10 @@ cut-route-requires c κs =
       ),
       (
         steps-forward _ _ _ _ _ _ _ _ _ (route .calc .ensures)
-            (edges-fit _ (entry .args .logarithms .now) (entry .args .plan .used) _ _ _ _ _ _ _ _ (entry .pre .1 .0 .3) (edges .enum-told3 .given .1) (walk .for-each-prefix-at-every-char .ensures)),
-        edges-rise _ (entry .args .logarithms .now) (entry .args .plan .used) _ _ _ _ _ _ _ _ (entry .pre .1 .0 .3) (edges .enum-told3 .given .1) (walk .for-each-prefix-at-every-char .ensures),
+            (edges-fit _ (entry .args .logarithms .now) (entry .args .plan .used) _ _ _ _ _ _ _ _ (entry .pre .1 .0 .3) (edges .enum-told3 .given .1)
+            (walk .for-each-prefix-at-every-char .ensures)),
+        edges-rise _ (entry .args .logarithms .now) (entry .args .plan .used) _ _ _ _ _ _ _ _ (entry .pre .1 .0 .3) (edges .enum-told3 .given .1)
+            (walk .for-each-prefix-at-every-char .ensures),
       ),
     )
 
@@ -130,13 +148,17 @@ returns-2 : tie.Need-returns-2
 returns-2 c =
     let walk = walked (c .before .before) in
     λ b place planned known.
-    stopped-full _ b _ _ _ _ _ _ _ _ _ _ (not-false _ (of-class walk .if1 .left)) (walk .for-each-prefix-at-every-char .ensures b (planned .seen .same-trie) (planned .seen .records) (rw (planned .same-logarithms) (lent (of-class walk) .pre .1 .0 .3))) (c .enum-told .given .1)
+    stopped-full _ b _ _ _ _ _ _ _ _ _ _ (not-false _ (of-class walk .if1 .left))
+    (walk .for-each-prefix-at-every-char .ensures b (planned .seen .same-trie) (planned .seen .records)
+    (rw (planned .same-logarithms) (lent (of-class walk) .pre .1 .0 .3))) (c .enum-told .given .1)
 
 returns-3 : tie.Need-returns-3
 returns-3 c =
     let walk = walked (c .before .before) in
     λ b place planned known.
-    stopped-damaged _ b _ _ _ _ _ _ _ _ _ _ (not-false _ (of-class walk .if1 .left)) (walk .for-each-prefix-at-every-char .ensures b (planned .seen .same-trie) (planned .seen .records) (rw (planned .same-logarithms) (lent (of-class walk) .pre .1 .0 .3))) (c .enum-told2 .given .1)
+    stopped-damaged _ b _ _ _ _ _ _ _ _ _ _ (not-false _ (of-class walk .if1 .left))
+    (walk .for-each-prefix-at-every-char .ensures b (planned .seen .same-trie) (planned .seen .records)
+    (rw (planned .same-logarithms) (lent (of-class walk) .pre .1 .0 .3))) (c .enum-told2 .given .1)
 
 returns-4 : tie.Need-returns-4
 returns-4 c =
@@ -146,7 +168,9 @@ returns-4 c =
     let walk = walked (edges .before .before) in
     λ b place planned known.
     routed (lent (of-class walk) .args .plan .mode) b _ _ _ _ _ _ _ _ _ _ (not-false _ (of-class walk .if1 .left))
-    (walk .for-each-prefix-at-every-char .ensures b (planned .seen .same-trie) (planned .seen .records) (rw (planned .same-logarithms) (lent (of-class walk) .pre .1 .0 .3))) _ (edges .enum-told3 .given .1) _ _ (planned .same-logarithms) (planned .same-total) _
+    (walk .for-each-prefix-at-every-char .ensures b (planned .seen .same-trie) (planned .seen .records)
+    (rw (planned .same-logarithms) (lent (of-class walk) .pre .1 .0 .3))) _ (edges .enum-told3 .given .1) _ _ (planned .same-logarithms)
+    (planned .same-total) _
     (tokens .cut-route .ensures place _ _ _ known (has-ends _ _ _ _ _ _ _ _ _ (route .calc .ensures)))
 
 pub cut-block-spec : {M : Type 1} → statement M

@@ -27,8 +27,10 @@ counted c = c .before .before .before
 a-record : (c : tie.Else2) → noRecord (lent (recorded c) .args .head) (lent (recorded c) .args .records) ≡ false
 a-record c = sym (c .before .no-record .ensures) ∙ c .if2 .left
 
-empty-enough : (c : tie.Else4) → ltb (emptySlots (lent (recorded (roomy (counted c))) .args .keys .now)) (lent (recorded (roomy (counted c))) .args .slots) ≡ false
-empty-enough c = let a = lent (recorded (roomy (counted c))) .args in enough _ (a .slots) (emptySlots (a .keys .now)) (c .before .has-empty .ensures) (c .if4 .left)
+empty-enough : (c : tie.Else4) → ltb (emptySlots (lent (recorded (roomy (counted c))) .args .keys .now))
+    (lent (recorded (roomy (counted c))) .args .slots) ≡ false
+empty-enough c = let a = lent (recorded (roomy (counted c))) .args in
+    enough _ (a .slots) (emptySlots (a .keys .now)) (c .before .has-empty .ensures) (c .if4 .left)
 
 add-total : tie.Need-add-total
 add-total c = search needs
@@ -40,7 +42,9 @@ no-record-requires : tie.Need-no-record-requires
 no-record-requires c κs = search needs
 
 returns-2 : tie.Need-returns-2
-returns-2 c = let a = lent (c .before .before) .args in records-taken (a .head) (a .records) (a .keys .now) (a .slots) (a .nodes) (a .frequency) (c .before .before .if1 .left) (sym (c .before .no-record .ensures) ∙ c .if2 .taken)
+returns-2 c = let a = lent (c .before .before) .args in
+    records-taken (a .head) (a .records) (a .keys .now) (a .slots) (a .nodes) (a .frequency) (c .before .before .if1 .left)
+    (sym (c .before .no-record .ensures) ∙ c .if2 .taken)
 
 mul-if3 : tie.Need-mul-if3
 mul-if3 c = search needs
@@ -68,7 +72,8 @@ returns-4 c =
     let three = c .before .before .before in
     let two = roomy three in
     let a = lent (recorded two) .args in
-    slots-missing (a .head) (a .records) (a .keys .now) (a .slots) (a .nodes) (a .frequency) (recorded two .if1 .left) (a-record two) (three .if3 .left) (too-few _ (a .slots) (emptySlots (a .keys .now)) (c .before .has-empty .ensures) (c .if4 .taken))
+    slots-missing (a .head) (a .records) (a .keys .now) (a .slots) (a .nodes) (a .frequency) (recorded two .if1 .left) (a-record two)
+    (three .if3 .left) (too-few _ (a .slots) (emptySlots (a .keys .now)) (c .before .has-empty .ensures) (c .if4 .taken))
 
 add-if5 : tie.Need-add-if5
 add-if5 c = search needs
@@ -78,14 +83,16 @@ returns-5 c =
     let four = c .before .before in
     let two = roomy (counted four) in
     let a = lent (recorded two) .args in
-    nodes-missing (a .head) (a .records) (a .keys .now) (a .slots) (a .nodes) (a .frequency) (recorded two .if1 .left) (a-record two) (counted four .if3 .left) (empty-enough four) (c .if5 .taken)
+    nodes-missing (a .head) (a .records) (a .keys .now) (a .slots) (a .nodes) (a .frequency) (recorded two .if1 .left) (a-record two)
+    (counted four .if3 .left) (empty-enough four) (c .if5 .taken)
 
 returns-6 : tie.Need-returns-6
 returns-6 c =
     let four = c .before .before in
     let two = roomy (counted four) in
     let a = lent (recorded two) .args in
-    new-enters (a .head) (a .records) (a .keys .now) (a .slots) (a .nodes) (a .frequency) (recorded two .if1 .left) (a-record two) (counted four .if3 .left) (empty-enough four) (c .if5 .left)
+    new-enters (a .head) (a .records) (a .keys .now) (a .slots) (a .nodes) (a .frequency) (recorded two .if1 .left) (a-record two)
+    (counted four .if3 .left) (empty-enough four) (c .if5 .left)
 
 pub decide-new-spec : {M : Type 1} → statement M
 decide-new-spec =

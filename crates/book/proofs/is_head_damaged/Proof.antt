@@ -1,4 +1,5 @@
--- `book::is_head_damaged` meets its contract: it is the definition, test by test; once the slots used are within the slots, their product with 8 fits. Assumes nothing.
+-- `book::is_head_damaged` meets its contract: it is the definition, test by test; once the slots used are within the slots, their product with 8 fits.
+-- Assumes nothing.
 use borrow.Author.Needs.{needs}
 use borrow.Author.Tests.{lt-ltb, le-ltb}
 use Rattle.book.specs.Returns.{headDamaged}

@@ -1,6 +1,6 @@
 -- `cut::cut` meets its contract: the areas are measured, and cut with by `Default`. Assumes nothing.
 use borrow.Author.Needs.{needs}
-use Rattle.tokenize.proofs.Wholes.{measured-cut, measured-begins}
+use Rattle.cut_sentence.proofs.Wholes.{measured-cut, measured-begins}
 use Rattle.cut.proofs.Modes.{by-default}
 use Rattle.cut.proofs.cut.Statement.{statement}
 use Rattle.cut.proofs.cut.Tie as tie
@@ -43,7 +43,9 @@ same-length-9 c = search needs
 
 returns : tie.Need-returns
 returns c =
-    let called = c .before .before .before .before .before .before .before .before .before .before .before .before .before .before .before .before .before .before in
+    let called =
+    c .before .before .before .before .before .before .before .before .before .before .before .before .before .before .before .before .before
+    .before in
     let edges = called .before .before .before .before .before .before .before .before .before .before in
     let work = edges .before in (
       by-default _ _ _ _ _ _ (measured-cut _ _ _ _ (work .shortest .ensures) _ _ _ _ (edges .shorter .ensures) _ (called .cut-sentence .ensures .0)),

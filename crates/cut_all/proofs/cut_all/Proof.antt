@@ -14,7 +14,8 @@ use Rattle.cut_all.proofs.cut_all.Tie as tie
 -- the outcome of the tests, from what `shorter` and `begin` ensure
 tests : (c : tie.After-begin)
     → let args = c .before .before .before .before .before .before .before .before .before .before .before .args in
-    Tests (args .head) (args .root-children .now) (args .root-words .now) (args .keys .now) (args .children .now) (args .words .now) (args .frequencies .now) (args .logarithms .now)
+    Tests (args .head) (args .root-children .now) (args .root-words .now) (args .keys .now) (args .children .now) (args .words .now)
+    (args .frequencies .now) (args .logarithms .now)
     (args .sentence .now) (args .chars .now) (args .offsets .now) (args .tokens .now) (c .begin .result)
 tests c = tested _ _ _ _ _ _ _ _ _ _ _ _ _ _ (c .before .shorter .ensures) (c .begin .ensures _ refl)
 

@@ -72,8 +72,10 @@ next-recording-requires c κs =
     let loop = c .before .before .before .before in
     let entry = start loop in
     let room = entry .pre .1 .1 .1 in
-    let l = loop .loop .inv in
-    ((before-end (c .before .before), entry .pre .1 .1 .0 .0, l .1 .well-formed), (omega (arith, l .0, l .1 .counted, room), omega (arith, l .0, l .1 .counted, room)))
+    let l = loop .loop .inv in (
+      (before-end (c .before .before), entry .pre .1 .1 .0 .0, l .1 .well-formed),
+      (omega (arith, l .0, l .1 .counted, room), omega (arith, l .0, l .1 .counted, room)),
+    )
 
 cut-all-tokens-requires : tie.Need-cut-all-tokens-requires Inv-loop μ-loop
 cut-all-tokens-requires c κs =
@@ -126,7 +128,8 @@ returns : tie.Need-returns Inv-loop μ-loop
 returns c =
     let cut = c .before .before in
     let run = run cut in
-    ends-stopped (head run .loop .inv .1) (run .next-recording .ensures) (cut .if2 .cut) _ (block cut .same) (sym (c .before .is-done .ensures) ∙ not-true _ (c .if3 .taken))
+    ends-stopped (head run .loop .inv .1) (run .next-recording .ensures) (cut .if2 .cut) _ (block cut .same)
+    (sym (c .before .is-done .ensures) ∙ not-true _ (c .if3 .taken))
 
 cast-base : tie.Need-cast-base Inv-loop μ-loop
 cast-base c =

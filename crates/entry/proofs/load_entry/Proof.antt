@@ -8,7 +8,7 @@ use mathlib.Core.Bool.{false}
 use Prim.Native.Nat.{_<_, _≤_}
 use lib.ListN.{length}
 use Rattle.insert.specs.Insert.{characters}
-use Rattle.book.specs.Returns.{headDamaged}
+use Rattle.book.specs.Returns.{mostRecords, headDamaged}
 use Rattle.book.proofs.Sizes.{sizes, HeadWithin, head-within}
 use Rattle.book.proofs.Areas.{slot-count, slots-most, equally-long}
 use Rattle.entry.proofs.Bounds.{Inserts, record-held, room-left, insert-sizes}
@@ -46,7 +46,7 @@ abbrev stored : tie.After-struct-known2 → tie.After-set-record2
 stored c = c .before .before .before .before .before
 
 -- there are as many logarithms as frequencies, and not many
-few-records : (c : tie.Start) → (length (c .args .logarithms .now) ≡ length (c .args .frequencies .now)) × (length (c .args .frequencies .now) ≤ 1048576)
+few-records : (c : tie.Start) → (length (c .args .logarithms .now) ≡ length (c .args .frequencies .now)) × (length (c .args .frequencies .now) ≤ mostRecords)
 few-records c = let s = sizes _ _ _ _ _ _ _ (c .pre .0) in (s .record-logarithms, s .records-most)
 
 -- the head is not damaged, so its numbers are small
@@ -70,7 +70,8 @@ module _ (c : tie.After-decision3) where
   abbrev inserting : tie.Else1
   inserting = sound (c .before .before .before)
 
-  room : Inserts (book inserting .args .head) (length (book inserting .args .frequencies .now)) (length (book inserting .args .keys .now)) (c .decision3 .given .0 .0) (c .decision3 .given .0 .1 .0)
+  room : Inserts (book inserting .args .head) (length (book inserting .args .frequencies .now)) (length (book inserting .args .keys .now))
+      (c .decision3 .given .0 .0) (c .decision3 .given .0 .1 .0)
   room = room-left _ _ _ _ _ (c .before .before .decide .ensures) (c .decision3 .given .1)
 
 is-head-damaged-requires : tie.Need-is-head-damaged-requires
@@ -161,7 +162,8 @@ returns-2 : tie.Need-returns-2
 returns-2 c =
     let decided = c .before .before .before in
     let passed = sound (decided .before) in
-    refused _ _ _ _ _ _ (book passed .pre .1 .1) (passed .before .is-head-damaged .ensures) (passed .if1 .left) (decided .decide .ensures) (c .before .decision .given .1)
+    refused _ _ _ _ _ _ (book passed .pre .1 .1) (passed .before .is-head-damaged .ensures) (passed .if1 .left) (decided .decide .ensures)
+    (c .before .decision .given .1)
 
 same-length-7 : tie.Need-same-length-7
 same-length-7 c = search needs
@@ -190,7 +192,8 @@ returns-3 c =
     let decision = replaces (written .before) in
     let decided = decision .before .before in
     let passed = replacing decision in
-    replaced-by _ _ _ _ _ _ (book passed .pre .1 .1) (passed .before .is-head-damaged .ensures) (passed .if1 .left) (decided .decide .ensures) (decision .decision2 .given .1)
+    replaced-by _ _ _ _ _ _ (book passed .pre .1 .1) (passed .before .is-head-damaged .ensures) (passed .if1 .left) (decided .decide .ensures)
+    (decision .decision2 .given .1)
     _ (written .set-record .ensures .0) _ (written .set-record .ensures .1) (c .replaced .ensures)
 
 same-length-14 : tie.Need-same-length-14
@@ -222,8 +225,10 @@ returns-4 c =
     let decision = chosen (written .before) in
     let decided = decision .before .before in
     let passed = inserting decision in
-    inserted-by _ _ _ _ _ _ (book passed .pre .1 .1) (passed .before .is-head-damaged .ensures) (passed .if1 .left) (decided .decide .ensures) (decision .decision3 .given .1)
-    _ (numbered (walked .before) .next-record .ensures) _ (toZ-ofZ (cast-insert-2 (walked .before))) _ (walked .insert .ensures) _ (written .set-record2 .ensures .0) _ (written .set-record2 .ensures .1)
+    inserted-by _ _ _ _ _ _ (book passed .pre .1 .1) (passed .before .is-head-damaged .ensures) (passed .if1 .left) (decided .decide .ensures)
+    (decision .decision3 .given .1)
+    _ (numbered (walked .before) .next-record .ensures) _ (toZ-ofZ (cast-insert-2 (walked .before))) _ (walked .insert .ensures) _
+    (written .set-record2 .ensures .0) _ (written .set-record2 .ensures .1)
 
 pub load-entry-spec : {M : Type 1} → statement M
 load-entry-spec =

@@ -76,7 +76,8 @@ loop-again c =
     let at = high .before .before .before in (
       omega arith,
       simp length-set (omega arith),
-      one-byte _ (at .loop .i) (omega arith) _ _ _ (high .wide .ensures) (low .wide2 .ensures) (byte .byte-of .ensures) _ (omega arith) (at .loop .inv .2) (c .if1 .left),
+      one-byte _ (at .loop .i) (omega arith) _ _ _ (high .wide .ensures) (low .wide2 .ensures) (byte .byte-of .ensures) _ (omega arith)
+          (at .loop .inv .2) (c .if1 .left),
     )
 
 same-length-2 : tie.Need-same-length-2 Inv-loop μ-loop

@@ -55,8 +55,12 @@ same-length-2 c = search needs
 
 returns-5 : tie.Need-returns-5
 returns-5 c =
-    let read = c .before .before .before .before .before .decode in
-    (frame-read _ _ (length (c .before .before .before .before .before .before .before .before .before .before .before .before .args .line .now) / 2) (was-decoded _ _ _ (read .ensures) (not-false _ (c .before .before .if4 .left))) _ (c .kind-of .ensures) (omega arith) (omega arith) (omega arith), omega arith)
+    let read = c .before .before .before .before .before .decode in (
+      frame-read _ _ (length (c .before .before .before .before .before .before .before .before .before .before .before .before .args .line .now) / 2)
+          (was-decoded _ _ _ (read .ensures) (not-false _ (c .before .before .if4 .left))) _ (c .kind-of .ensures) (omega arith) (omega arith)
+          (omega arith),
+      omega arith,
+    )
 
 pub read-frame-spec : {M : Type 1} → statement M
 read-frame-spec =

@@ -21,7 +21,8 @@ use Rattle.insert.proofs.extend.Tie as tie
 abbrev Inv-loop : tie.InvT-loop
 Inv-loop root-children₀ root-words₀ keys₀ children₀ words₀ shift s at₀ place₀ node₀ number root-children root-words keys children words at place node =
     let tables = trieOf root-children₀ root-words₀ keys₀ children₀ words₀ in
-    Extending tables s (toZ w32 number) (extend tables place₀ (characters (drop at₀ s)) node₀ (toZ w32 number)) (trieOf root-children root-words keys children words) place at node
+    Extending tables s (toZ w32 number) (extend tables place₀ (characters (drop at₀ s)) node₀ (toZ w32 number))
+    (trieOf root-children root-words keys children words) place at node
 
 abbrev μ-loop : tie.MeasureT-loop
 μ-loop root-children₀ root-words₀ keys₀ children₀ words₀ shift s at₀ place₀ node₀ number root-children root-words keys children words at place node =

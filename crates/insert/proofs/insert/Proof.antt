@@ -75,7 +75,8 @@ returns-2 c =
     let extended = c .before .before .before .before .before .before .before .before in
     let place = placed (extended .before) in
     let marks = marked (place .before .before) in
-    inserted _ _ _ _ _ _ _ (marks .mark .ensures .1 _ _) _ _ _ (place .place .given .1) (rw (toZ-ofZ (lent (marks .before) .fits .number)) at (extended .extend .ensures))
+    inserted _ _ _ _ _ _ _ (marks .mark .ensures .1 _ _) _ _ _ (place .place .given .1)
+    (rw (toZ-ofZ (lent (marks .before) .fits .number)) at (extended .extend .ensures))
 
 pub insert-spec : {M : Type 1} → statement M
 insert-spec =

@@ -13,7 +13,8 @@ use Rattle.insert.proofs.mark.Statement.{statement}
 use Rattle.insert.proofs.mark.Tie as tie
 
 abbrev Inv-loop : tie.InvT-loop
-Inv-loop root-children₀ keys₀ children₀ shift s place₀ at₀ root-children keys children place at = Marking root-children₀ keys₀ children₀ s root-children keys children place at
+Inv-loop root-children₀ keys₀ children₀ shift s place₀ at₀ root-children keys children place at =
+    Marking root-children₀ keys₀ children₀ s root-children keys children place at
 
 abbrev μ-loop : tie.MeasureT-loop
 μ-loop root-children₀ keys₀ children₀ shift s place₀ at₀ root-children keys children place at = length s - at

@@ -70,7 +70,8 @@ returns-2 : tie.Need-returns-2
 returns-2 c =
     let key = keyed (c .before) in
     let left = below-root key in
-    no-empty-slot _ _ _ _ _ (left .before .from-root .ensures _ _ _ _) (left .if1 .left) _ _ (key .before .node-at .ensures _ _ _) (key .key .ensures) _ (c .before .first-empty .ensures) (c .match .keys2)
+    no-empty-slot _ _ _ _ _ (left .before .from-root .ensures _ _ _ _) (left .if1 .left) _ _ (key .before .node-at .ensures _ _ _) (key .key .ensures)
+    _ (c .before .first-empty .ensures) (c .match .keys2)
 
 set-bits-requires : tie.Need-set-bits-requires
 set-bits-requires c κs = search needs
@@ -104,7 +105,8 @@ returns-3 c =
     let searched = slot .before .before in
     let key = keyed searched in
     let left = below-root key in
-    new-slot-made _ _ _ _ _ (left .before .from-root .ensures _ _ _ _) (left .if1 .left) _ _ (key .before .node-at .ensures _ _ _) (key .key .ensures) _ (searched .first-empty .ensures)
+    new-slot-made _ _ _ _ _ (left .before .from-root .ensures _ _ _ _) (left .if1 .left) _ _ (key .before .node-at .ensures _ _ _) (key .key .ensures)
+    _ (searched .first-empty .ensures)
     _ _ _ (slot .i .given .1) (bits .set-bits .ensures _ _) (made .new-slot .ensures _ _)
 
 pub new-step-spec : {M : Type 1} → statement M

@@ -1,4 +1,5 @@
--- `lines::parse_digits` meets its contract. The loop's invariant: the number so far is not too large, and with the digits to come it makes the answer. Assumes nothing.
+-- `lines::parse_digits` meets its contract. The loop's invariant: the number so far is not too large, and with the digits to come it makes the answer.
+-- Assumes nothing.
 use mathlib.Core.Path.{_≡_}
 use Prim.Native.Nat.{_-_, _≤_}
 use native.Mathlib.Omega.{arith}
@@ -31,7 +32,8 @@ returns-2 : tie.Need-returns-2 Inv-loop μ-loop
 returns-2 c = low _ _ _ _ (c .before .before .before .before .loop .inv .1) (omega arith) _ (c .before .wide .ensures .0) (omega arith)
 
 returns-3 : tie.Need-returns-3 Inv-loop μ-loop
-returns-3 c = high _ _ _ _ (c .before .before .before .before .before .loop .inv .1) (omega arith) _ (c .before .before .wide .ensures .0) (omega arith) (omega arith)
+returns-3 c = high _ _ _ _ (c .before .before .before .before .before .loop .inv .1) (omega arith) _ (c .before .before .wide .ensures .0)
+    (omega arith) (omega arith)
 
 mul-n : tie.Need-mul-n Inv-loop μ-loop
 mul-n c = omega arith
@@ -40,7 +42,8 @@ add-n : tie.Need-add-n Inv-loop μ-loop
 add-n c = omega arith
 
 returns-4 : tie.Need-returns-4 Inv-loop μ-loop
-returns-4 c = over _ _ _ _ (c .before .before .before .before .before .before .loop .inv .1) (omega arith) _ (c .before .before .before .wide .ensures .0) (omega arith) (omega arith) (omega arith)
+returns-4 c = over _ _ _ _ (c .before .before .before .before .before .before .loop .inv .1) (omega arith) _
+    (c .before .before .before .wide .ensures .0) (omega arith) (omega arith) (omega arith)
 
 add-at : tie.Need-add-at Inv-loop μ-loop
 add-at c = omega arith
@@ -49,7 +52,11 @@ loop-less : tie.Need-loop-less Inv-loop μ-loop
 loop-less c = omega arith
 
 loop-again : tie.Need-loop-again Inv-loop μ-loop
-loop-again c = (omega arith, next _ _ _ _ (c .before .before .before .before .before .before .loop .inv .1) (omega arith) _ (c .before .before .before .wide .ensures .0) (omega arith) (omega arith))
+loop-again c = (
+  omega arith,
+  next _ _ _ _ (c .before .before .before .before .before .before .loop .inv .1) (omega arith) _
+      (c .before .before .before .wide .ensures .0) (omega arith) (omega arith),
+)
 
 cast-t14 : tie.Need-cast-t14 Inv-loop μ-loop
 cast-t14 c = omega arith

@@ -35,7 +35,9 @@ word c = sym (c .start .given .1) ∙ c .before .before .next-field .ensures
 
 -- the frequency's field, which is a part of the line
 module _ (c : tie.After-from) where
-  frequency : At (c .from .given .0 .0) (c .from .given .0 .1 .0) ≡ fieldAt (word-found c .start .given .0 .1 .0) (charsFrom (lent (counted (word-found c)) .args .line .now) (word-found c .start .given .0 .1 .0))
+  frequency : At (c .from .given .0 .0) (c .from .given .0 .1 .0)
+      ≡ fieldAt (word-found c .start .given .0 .1 .0)
+      (charsFrom (lent (counted (word-found c)) .args .line .now) (word-found c .start .given .0 .1 .0))
   frequency = sym (c .from .given .1) ∙ c .before .before .next-field2 .ensures
 
   inside : (c .from .given .0 .0 ≤ c .from .given .0 .1 .0) × (c .from .given .0 .1 .0 ≤ length (lent (counted (word-found c)) .args .line .now))
@@ -112,7 +114,8 @@ returns-5 : tie.Need-returns-5
 returns-5 c =
     let parsed = c .before .before .before in
     let found = word-found (both-found parsed) in
-    line-entry _ _ (chars (counted found)) _ _ (word found) _ _ (frequency (both-found parsed)) _ (sym (c .before .n .given .1) ∙ parsed .parse-frequency .ensures)
+    line-entry _ _ (chars (counted found)) _ _ (word found) _ _ (frequency (both-found parsed)) _
+    (sym (c .before .n .given .1) ∙ parsed .parse-frequency .ensures)
 
 pub parse-line-spec : {M : Type 1} → statement M
 parse-line-spec =

@@ -1,4 +1,5 @@
--- `lines::skip` meets its contract. The loop's invariant: the text from the position on is well formed, and the position after what is skipped is still the one to be answered. Assumes nothing.
+-- `lines::skip` meets its contract. The loop's invariant: the text from the position on is well formed, and the position after what is skipped is still
+-- the one to be answered. Assumes nothing.
 use mathlib.Core.Path.{_≡_, refl, _∙_}
 use mathlib.Core.Option.{IsSome}
 use Prim.Native.Nat.{_-_}
@@ -44,7 +45,8 @@ loop-again c =
     let tested = c .before .before in
     let read = tested .before in
     let loop = read .before .before in (
-      pass _ _ _ (loop .loop .inv .1) _ _ (read .next-char .ensures) (alike _ _ _ (tested .is-white-space .ensures) (c .before .if1 .left)) ∙ loop .loop .inv .0,
+      pass _ _ _ (loop .loop .inv .1) _ _ (read .next-char .ensures) (alike _ _ _ (tested .is-white-space .ensures) (c .before .if1 .left))
+          ∙ loop .loop .inv .0,
       search still-chars,
     )
 

@@ -96,7 +96,8 @@ returns-4 c =
     let head = sound .before in
     let told = head .before in
     let tested = told .before .before in
-    found-in-numbers (looked-up _ _ (tested .test-word .ensures) (told .enum-told2 .given .1) (head .is-head-damaged .ensures) (sound .if1 .left) (got .get .ensures) (held .n .given .1))
+    found-in-numbers (looked-up _ _ (tested .test-word .ensures) (told .enum-told2 .given .1) (head .is-head-damaged .ensures) (sound .if1 .left)
+    (got .get .ensures) (held .n .given .1))
 
 returns-5 : tie.Need-returns-5
 returns-5 c =
@@ -105,7 +106,8 @@ returns-5 c =
     let head = sound .before in
     let told = head .before in
     let tested = told .before .before in
-    found-in-numbers (looked-up _ _ (tested .test-word .ensures) (told .enum-told2 .given .1) (head .is-head-damaged .ensures) (sound .if1 .left) (got .get .ensures) (c .enum-told3 .given .1))
+    found-in-numbers (looked-up _ _ (tested .test-word .ensures) (told .enum-told2 .given .1) (head .is-head-damaged .ensures) (sound .if1 .left)
+    (got .get .ensures) (c .enum-told3 .given .1))
 
 returns-6 : tie.Need-returns-6
 returns-6 c =
@@ -114,7 +116,8 @@ returns-6 c =
     let head = sound .before in
     let told = head .before in
     let tested = told .before .before in
-    found-in-numbers (looked-up _ _ (tested .test-word .ensures) (told .enum-told2 .given .1) (head .is-head-damaged .ensures) (sound .if1 .left) (got .get .ensures) (c .enum-told4 .given .1))
+    found-in-numbers (looked-up _ _ (tested .test-word .ensures) (told .enum-told2 .given .1) (head .is-head-damaged .ensures) (sound .if1 .left)
+    (got .get .ensures) (c .enum-told4 .given .1))
 
 pub lookup-spec : {M : Type 1} → statement M
 lookup-spec =

@@ -30,7 +30,8 @@ returns-3 c =
     let counted = c .before .before in
     let short = counted .before in
     let sized = short .before in
-    malformed _ _ (sized .before .is-allowed .ensures) (sized .if1 .left) (omega (arith, short .if2 .left)) (counted .char-count .ensures) (c .enum-told .given .1)
+    malformed _ _ (sized .before .is-allowed .ensures) (sized .if1 .left) (omega (arith, short .if2 .left)) (counted .char-count .ensures)
+    (c .enum-told .given .1)
 
 returns-4 : tie.Need-returns-4
 returns-4 c =
@@ -38,7 +39,8 @@ returns-4 c =
     let counted = read .before .before in
     let short = counted .before in
     let sized = short .before in
-    empty _ _ (sized .before .is-allowed .ensures) (sized .if1 .left) (omega (arith, short .if2 .left)) (counted .char-count .ensures) (read .count .given .1) (c .if3 .taken)
+    empty _ _ (sized .before .is-allowed .ensures) (sized .if1 .left) (omega (arith, short .if2 .left)) (counted .char-count .ensures)
+    (read .count .given .1) (c .if3 .taken)
 
 returns-5 : tie.Need-returns-5
 returns-5 c =
@@ -46,7 +48,8 @@ returns-5 c =
     let counted = read .before .before in
     let short = counted .before in
     let sized = short .before in
-    none-refused _ _ (sized .before .is-allowed .ensures) (sized .if1 .left) (omega (arith, short .if2 .left)) (counted .char-count .ensures) (read .count .given .1) (c .if3 .left)
+    none-refused _ _ (sized .before .is-allowed .ensures) (sized .if1 .left) (omega (arith, short .if2 .left)) (counted .char-count .ensures)
+    (read .count .given .1) (c .if3 .left)
 
 pub test-word-spec : {M : Type 1} → statement M
 test-word-spec =

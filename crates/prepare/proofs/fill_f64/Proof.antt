@@ -29,7 +29,10 @@ loop-less : tie.Need-loop-less Inv-loop μ-loop
 loop-less c = omega (arith, filled-length _ _ _ _ (c .before .loop .inv .1) (c .before .loop .inv .0))
 
 loop-again : tie.Need-loop-again Inv-loop μ-loop
-loop-again c = (omega (arith, filled-length _ _ _ _ (c .before .loop .inv .1) (c .before .loop .inv .0)), filled-more _ _ _ _ (c .before .loop .inv .1) (omega (arith, filled-length _ _ _ _ (c .before .loop .inv .1) (c .before .loop .inv .0))))
+loop-again c = (
+  omega (arith, filled-length _ _ _ _ (c .before .loop .inv .1) (c .before .loop .inv .0)),
+  filled-more _ _ _ _ (c .before .loop .inv .1) (omega (arith, filled-length _ _ _ _ (c .before .loop .inv .1) (c .before .loop .inv .0))),
+)
 
 same-length : tie.Need-same-length Inv-loop μ-loop
 same-length c = filled-length _ _ _ _ (c .before .loop .inv .1) (c .before .loop .inv .0)

@@ -69,7 +69,8 @@ returns-2 c =
     let sized = root-children .before .before in
     prepared-in-numbers
     (ready _ _ _ _ _ _ _ _ (sized .before .is-allowed .ensures) _ _ _ _ _ _ _ (not-false _ (sized .if1 .left))
-    (root-children .fill-u32 .ensures) (root-words .fill-no-word .ensures) (keys .fill-u64 .ensures) (children .fill-u322 .ensures) (words .fill-no-word2 .ensures) (frequencies .fill-u323 .ensures)
+    (root-children .fill-u32 .ensures) (root-words .fill-no-word .ensures) (keys .fill-u64 .ensures) (children .fill-u322 .ensures)
+    (words .fill-no-word2 .ensures) (frequencies .fill-u323 .ensures)
     (logarithms .fill-f64 .ensures))
 
 pub prepare-spec : {M : Type 1} → statement M

@@ -6,7 +6,7 @@ use borrow.Author.Needs.{needs}
 use borrow.Author.Tests.{not-true, not-false}
 use Rattle.route.specs.Slices.{rowsOf}
 use Rattle.cuts.specs.Tokens.{span, written}
-use Rattle.search.proofs.Lists.{block-long}
+use Rattle.cuts.proofs.Lists.{block-long}
 use Rattle.search.proofs.Turns.{parts-refused, pairs-refused, triples-refused, itself}
 use Rattle.search.proofs.search_token.Statement.{statement}
 use Rattle.search.proofs.search_token.Tie as tie

@@ -23,7 +23,8 @@ returns-3 : tie.Need-returns-3
 returns-3 c =
     let whole = c .before in
     let sized = whole .before in
-    λ area long. too-long _ _ area _ _ (sym (sized .before .is-allowed .ensures) ∙ not-false _ (sized .if1 .left)) (rw long (whole .if2 .left)) (omega (arith, c .if3))
+    λ area long. too-long _ _ area _ _ (sym (sized .before .is-allowed .ensures) ∙ not-false _ (sized .if1 .left)) (rw long (whole .if2 .left))
+    (omega (arith, c .if3))
 
 char-count-requires : tie.Need-char-count-requires
 char-count-requires c κs = search needs
@@ -40,7 +41,8 @@ returns-4 c =
     let short = counted .before in
     let whole = short .before in
     let sized = whole .before in
-    λ area long. malformed _ _ area _ _ (sym (sized .before .is-allowed .ensures) ∙ not-false _ (sized .if1 .left)) (rw long (whole .if2 .left)) (short .if3 .left)
+    λ area long. malformed _ _ area _ _ (sym (sized .before .is-allowed .ensures) ∙ not-false _ (sized .if1 .left)) (rw long (whole .if2 .left))
+    (short .if3 .left)
     (sym (c .enum-told .given .1) ∙ counted .char-count .ensures)
 
 returns-5 : tie.Need-returns-5
@@ -50,7 +52,8 @@ returns-5 c =
     let short = counted .before in
     let whole = short .before in
     let sized = whole .before in
-    λ area long. work-too-short _ _ area _ _ (sym (sized .before .is-allowed .ensures) ∙ not-false _ (sized .if1 .left)) (rw long (whole .if2 .left)) (omega (arith, short .if3)) _
+    λ area long. work-too-short _ _ area _ _ (sym (sized .before .is-allowed .ensures) ∙ not-false _ (sized .if1 .left)) (rw long (whole .if2 .left))
+    (omega (arith, short .if3)) _
     (sym (read .count .given .1) ∙ counted .char-count .ensures) (omega (arith, c .if4))
 
 is-head-damaged-requires : tie.Need-is-head-damaged-requires
@@ -67,7 +70,8 @@ returns-6 c =
     let short = counted .before in
     let whole = short .before in
     let sized = whole .before in
-    λ area long. head-damaged _ _ area _ _ (sym (sized .before .is-allowed .ensures) ∙ not-false _ (sized .if1 .left)) (rw long (whole .if2 .left)) (omega (arith, short .if3)) _
+    λ area long. head-damaged _ _ area _ _ (sym (sized .before .is-allowed .ensures) ∙ not-false _ (sized .if1 .left)) (rw long (whole .if2 .left))
+    (omega (arith, short .if3)) _
     (sym (read .count .given .1) ∙ counted .char-count .ensures) (omega (arith, roomy .if4)) (sym (tested .is-head-damaged .ensures) ∙ c .if5 .taken)
 
 returns-7 : tie.Need-returns-7
@@ -79,7 +83,8 @@ returns-7 c =
     let short = counted .before in
     let whole = short .before in
     let sized = whole .before in
-    λ area long. none-refused _ _ area _ (sym (sized .before .is-allowed .ensures) ∙ not-false _ (sized .if1 .left)) (rw long (whole .if2 .left)) (omega (arith, short .if3)) _
+    λ area long. none-refused _ _ area _ (sym (sized .before .is-allowed .ensures) ∙ not-false _ (sized .if1 .left)) (rw long (whole .if2 .left))
+    (omega (arith, short .if3)) _
     (sym (read .count .given .1) ∙ counted .char-count .ensures) (omega (arith, roomy .if4)) (sym (tested .is-head-damaged .ensures) ∙ c .if5 .left)
 
 pub begin-spec : {M : Type 1} → statement M

@@ -14,7 +14,8 @@ use Rattle.sparse_dag.proofs.for_each_prefix_at_every_char.Statement.{s
 use Rattle.sparse_dag.proofs.for_each_prefix_at_every_char.Tie as tie
 
 abbrev Inv-loop : tie.InvT-loop
-Inv-loop root-children root-words keys children words shift used chars n starts₀ edge-ends₀ edge-records₀ room count₀ at₀ starts edge-ends edge-records count at =
+Inv-loop root-children root-words keys children words shift used chars n starts₀ edge-ends₀ edge-records₀ room count₀ at₀ starts edge-ends
+    edge-records count at =
     Joining root-children root-words keys children words used chars n room starts₀ edge-ends₀ edge-records₀ starts edge-ends edge-records count at
 
 abbrev μ-loop : tie.MeasureT-loop

@@ -11,11 +11,13 @@ use Rattle.sparse_dag.proofs.prefixes_at.Statement.{statement}
 use Rattle.sparse_dag.proofs.prefixes_at.Tie as tie
 
 abbrev Inv-loop : tie.InvT-loop
-Inv-loop root-children root-words keys children words shift used chars n at edge-ends₀ edge-records₀ room taken count₀ place₀ next₀ edge-ends edge-records count place next =
+Inv-loop root-children root-words keys children words shift used chars n at edge-ends₀ edge-records₀ room taken count₀ place₀ next₀ edge-ends
+    edge-records count place next =
     Walking root-children root-words keys children words used chars n at room taken edge-ends₀ edge-records₀ edge-ends edge-records count place next
 
 abbrev μ-loop : tie.MeasureT-loop
-μ-loop root-children root-words keys children words shift used chars n at edge-ends₀ edge-records₀ room taken count₀ place₀ next₀ edge-ends edge-records count place next =
+μ-loop root-children root-words keys children words shift used chars n at edge-ends₀ edge-records₀ room taken count₀ place₀ next₀ edge-ends
+    edge-records count place next =
     n - next
 
 -- the function's entry, from the loop's head
@@ -23,7 +25,8 @@ abbrev start : tie.At-loop Inv-loop μ-loop → tie.Start Inv-loop μ-loop
 start c = c .before .before .before .before .before .before .before
 
 loop-holds : tie.Need-loop-holds Inv-loop μ-loop
-loop-holds c = begins _ _ _ _ _ _ _ _ _ _ _ _ _ (c .before .before .before .before .before .before .pre .1 .1 .0 .0) (c .before .before .before .before .before .before .pre .1 .1 .1 .0)
+loop-holds c = begins _ _ _ _ _ _ _ _ _ _ _ _ _ (c .before .before .before .before .before .before .pre .1 .1 .0 .0)
+    (c .before .before .before .before .before .before .pre .1 .1 .1 .0)
 
 mul-tested-step : tie.Need-mul-tested-step Inv-loop μ-loop
 mul-tested-step c = search needs
@@ -34,8 +37,10 @@ shared-slice-read-tested-step c = search needs
 tested-step-requires : tie.Need-tested-step-requires Inv-loop μ-loop
 tested-step-requires c κs =
     let loop = c .before .before in
-    let entry = start loop in
-    ((entry .pre .0 .slotChildren, entry .pre .1 .0 .0), (entry .pre .1 .0 .1, (loop .loop .inv .walk .inside, entry .pre .1 .1 .0 .3 _ (c .before .loop-test .taken))))
+    let entry = start loop in (
+      (entry .pre .0 .slotChildren, entry .pre .1 .0 .0),
+      (entry .pre .1 .0 .1, (loop .loop .inv .walk .inside, entry .pre .1 .1 .0 .3 _ (c .before .loop-test .taken))),
+    )
 
 enum-known-child : tie.Need-enum-known-child Inv-loop μ-loop
 enum-known-child c = search needs
@@ -80,7 +85,8 @@ word-at-requires c κs =
     let loop = step .before .before .before in
     let entry = start loop in
     word-inside _ _ _ _ _ _ (entry .pre .0)
-    (next-inside (loop .loop .inv .walk) (entry .pre .1 .1 .0 .1) (step .before .before .loop-test .taken) (step .tested-step .ensures) (c .before .child .given .1) (entry .pre .1 .0 .0))
+    (next-inside (loop .loop .inv .walk) (entry .pre .1 .1 .0 .1) (step .before .before .loop-test .taken) (step .tested-step .ensures)
+    (c .before .child .given .1) (entry .pre .1 .0 .0))
 
 enum-told-3 : tie.Need-enum-told-3 Inv-loop μ-loop
 enum-told-3 c = search needs
@@ -95,7 +101,8 @@ loop-again c =
     let step = child .before .before in
     let loop = step .before .before .before in
     let entry = start loop in
-    goes-on (loop .loop .inv) (entry .pre .1 .1 .0 .1) (step .before .before .loop-test .taken) (step .tested-step .ensures) (child .child .given .1) (number .word-at .ensures)
+    goes-on (loop .loop .inv) (entry .pre .1 .1 .0 .1) (step .before .before .loop-test .taken) (step .tested-step .ensures) (child .child .given .1)
+    (number .word-at .ensures)
     (entry .pre .1 .0 .0) (c .enum-told3 .given .1)
 
 enum-known-record : tie.Need-enum-known-record Inv-loop μ-loop
@@ -114,7 +121,8 @@ returns-3 c =
     let child = number .before .before in
     let step = child .before .before in
     let loop = step .before .before .before in
-    ends-full (loop .loop .inv) (start loop .pre .1 .1 .0 .1) (step .before .before .loop-test .taken) (step .tested-step .ensures) (child .child .given .1) (number .word-at .ensures)
+    ends-full (loop .loop .inv) (start loop .pre .1 .1 .0 .1) (step .before .before .loop-test .taken) (step .tested-step .ensures)
+    (child .child .given .1) (number .word-at .ensures)
     (found .«record» .given .1) (omega (arith, c .if1 .taken))
 
 cast-edge-ends : tie.Need-cast-edge-ends Inv-loop μ-loop
@@ -164,7 +172,8 @@ loop-again-2 c =
     let loop = step .before .before .before in
     let entry = start loop in
     goes-on-behind (loop .loop .inv) (entry .pre .1 .1 .0 .1) (step .before .before .loop-test .taken) (step .tested-step .ensures) (child .child .given .1)
-    (number .word-at .ensures) (found .«record» .given .1) (entry .pre .1 .0 .0) (omega (arith, c .if1 .left, loop .loop .inv .within)) (entry .pre .1 .1 .1 .1) (entry .pre .1 .1 .1 .2)
+    (number .word-at .ensures) (found .«record» .given .1) (entry .pre .1 .0 .0) (omega (arith, c .if1 .left, loop .loop .inv .within))
+    (entry .pre .1 .1 .1 .1) (entry .pre .1 .1 .1 .2)
 
 enum-told-4 : tie.Need-enum-told-4 Inv-loop μ-loop
 enum-told-4 c = search needs
@@ -181,7 +190,8 @@ returns-4 c =
     let child = number .before .before in
     let step = child .before .before in
     let loop = step .before .before .before in
-    ends-bad (loop .loop .inv) (start loop .pre .1 .1 .0 .1) (step .before .before .loop-test .taken) (step .tested-step .ensures) (child .child .given .1) (number .word-at .ensures)
+    ends-bad (loop .loop .inv) (start loop .pre .1 .1 .0 .1) (step .before .before .loop-test .taken) (step .tested-step .ensures)
+    (child .child .given .1) (number .word-at .ensures)
     (c .enum-told4 .given .1)
 
 same-length-9 : tie.Need-same-length-9 Inv-loop μ-loop

@@ -13,7 +13,8 @@ use lib.ListN.{length, length-set}
 use Rattle.utf8.proofs.Positions.{inside}
 use Rattle.splitter.specs.Runs.{classOf}
 use Rattle.splitter.proofs.Classes.{same-kind}
-use Rattle.splitter.proofs.Recordings.{Recording, nothing-read, of-any-kind, of-same-kind, one-more-read, ends-with-text, ends-at-character, run-recorded}
+use Rattle.splitter.proofs.Recordings.{Recording, nothing-read, of-any-kind, of-same-kind, one-more-read, ends-with-text, ends-at-character}
+use Rattle.splitter.proofs.Recordings.{run-recorded}
 use Rattle.splitter.proofs.next_recording.Statement.{statement}
 use Rattle.splitter.proofs.next_recording.Tie as tie
 

@@ -1,6 +1,6 @@
 -- `tokenize::tokenize` meets its contract: the areas are measured, and cut with. Assumes nothing.
 use borrow.Author.Needs.{needs}
-use Rattle.tokenize.proofs.Wholes.{measured-cut, measured-begins}
+use Rattle.cut_sentence.proofs.Wholes.{measured-cut, measured-begins}
 use Rattle.tokenize.proofs.tokenize.Statement.{statement}
 use Rattle.tokenize.proofs.tokenize.Tie as tie
 
@@ -42,7 +42,9 @@ same-length-9 c = search needs
 
 returns : tie.Need-returns
 returns c =
-    let called = c .before .before .before .before .before .before .before .before .before .before .before .before .before .before .before .before .before .before in
+    let called =
+    c .before .before .before .before .before .before .before .before .before .before .before .before .before .before .before .before .before
+    .before in
     let edges = called .before .before .before .before .before .before .before .before .before .before in
     let work = edges .before in (
       measured-cut _ _ _ _ (work .shortest .ensures) _ _ _ _ (edges .shorter .ensures) _ (called .cut-sentence .ensures .0),

@@ -1,7 +1,8 @@
--- `tongsvale::tongsvale_cut` meets its contract: a head of another length is refused with every area as it was, else the call's answer in numbers. Assumes nothing.
+-- `tongsvale::tongsvale_cut` meets its contract: a head of another length is refused with every area as it was, else the call's answer in numbers.
+-- Assumes nothing.
 use mathlib.Core.Path.{refl}
 use Rattle.trie.specs.Trie.{trieOf}
-use Rattle.tokenize.specs.Areas.{workOf, roomOf}
+use Rattle.cut_sentence.specs.Areas.{workOf, roomOf}
 use Rattle.tongsvale.proofs.Exports.{cut-refused, cut-by, not-begun}
 use borrow.Author.Needs.{needs}
 use Rattle.tongsvale.proofs.tongsvale_cut.Statement.{statement}
@@ -12,8 +13,12 @@ refused-requires c κs = search needs
 
 returns : tie.Need-returns
 returns c =
-    let args = c .before .before .before .before .before .before .before .before .before .before .before .before .before .before .before .before .before .before .args in (
-      cut-refused _ _ _ _ _ _ (c .refused .ensures .0) (c .refused .ensures .1) (workOf (args .chars .now) (args .offsets .now) (args .starts .now) (args .scores .now) (args .ends .now) (args .records .now)) _ _ (c .before .if1 .taken) (roomOf (args .edge-ends .now) (args .edge-records .now)),
+    let args =
+    c .before .before .before .before .before .before .before .before .before .before .before .before .before .before .before .before .before
+    .before .args in (
+      cut-refused _ _ _ _ _ _ (c .refused .ensures .0) (c .refused .ensures .1)
+          (workOf (args .chars .now) (args .offsets .now) (args .starts .now) (args .scores .now) (args .ends .now) (args .records .now)) _ _
+          (c .before .if1 .taken) (roomOf (args .edge-ends .now) (args .edge-records .now)),
       λ none. (refl, refl, refl, refl, refl, refl, refl, refl),
     )
 
@@ -55,15 +60,21 @@ same-length-9 c = search needs
 
 returns-2 : tie.Need-returns-2
 returns-2 c =
-    let called = c .before .before .before .before .before .before .before .before .before .before .before .before .before .before .before .before .before .before .before in
+    let called =
+    c .before .before .before .before .before .before .before .before .before .before .before .before .before .before .before .before .before
+    .before .before in
     let read = called .before .before .before .before .before .before .before .before .before .before in
     let four = read .before .if1 .left in
-    let args = read .before .before .before .before .before .before .before .before .before .before .before .before .before .before .before .before .before .before .args in (
+    let args =
+    read .before .before .before .before .before .before .before .before .before .before .before .before .before .before .before .before .before
+    .before .args in (
       cut-by _ _ _ _ four _ (read .read-head .ensures) _ _ _ _ _ (called .cut .ensures .0) _ _ (c .returned .ensures .0) (c .returned .ensures .1),
       λ none.
           called .cut .ensures .1
-          (not-begun (args .head .now) (trieOf (args .root-children .now) (args .root-words .now) (args .keys .now) (args .children .now) (args .words .now)) (args .frequencies .now) (args .logarithms .now) four _ (read .read-head .ensures)
-          (workOf (args .chars .now) (args .offsets .now) (args .starts .now) (args .scores .now) (args .ends .now) (args .records .now)) (args .tokens .now) (args .sentence .now) none),
+          (not-begun (args .head .now) (trieOf (args .root-children .now) (args .root-words .now) (args .keys .now) (args .children .now)
+          (args .words .now)) (args .frequencies .now) (args .logarithms .now) four _ (read .read-head .ensures)
+          (workOf (args .chars .now) (args .offsets .now) (args .starts .now) (args .scores .now) (args .ends .now) (args .records .now))
+          (args .tokens .now) (args .sentence .now) none),
     )
 
 pub tongsvale-cut-spec : {M : Type 1} → statement M

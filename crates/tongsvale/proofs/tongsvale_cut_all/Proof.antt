@@ -1,4 +1,5 @@
--- `tongsvale::tongsvale_cut_all` meets its contract: a head of another length is refused with every area as it was, else the call's answer in numbers. Assumes nothing.
+-- `tongsvale::tongsvale_cut_all` meets its contract: a head of another length is refused with every area as it was, else the call's answer in numbers.
+-- Assumes nothing.
 use mathlib.Core.Path.{refl}
 use Rattle.trie.specs.Trie.{trieOf}
 use Rattle.cut_all.specs.Areas.{workOf}
@@ -13,7 +14,8 @@ refused-requires c κs = search needs
 returns : tie.Need-returns
 returns c =
     let args = c .before .before .before .before .before .before .before .before .before .before .before .before .args in (
-      cut-all-refused _ _ _ _ _ _ (c .refused .ensures .0) (c .refused .ensures .1) (workOf (args .chars .now) (args .offsets .now)) _ _ (c .before .if1 .taken),
+      cut-all-refused _ _ _ _ _ _ (c .refused .ensures .0) (c .refused .ensures .1) (workOf (args .chars .now) (args .offsets .now)) _ _
+          (c .before .if1 .taken),
       λ none. (refl, refl),
     )
 
@@ -44,7 +46,8 @@ returns-2 c =
       cut-all-by _ _ _ _ four _ (read .read-head .ensures) _ _ _ _ (called .cut-all .ensures .0) _ _ (c .returned .ensures .0) (c .returned .ensures .1),
       λ none.
           called .cut-all .ensures .1
-          (not-begun (args .head .now) (trieOf (args .root-children .now) (args .root-words .now) (args .keys .now) (args .children .now) (args .words .now)) (args .frequencies .now) (args .logarithms .now) four _ (read .read-head .ensures)
+          (not-begun (args .head .now) (trieOf (args .root-children .now) (args .root-words .now) (args .keys .now) (args .children .now)
+          (args .words .now)) (args .frequencies .now) (args .logarithms .now) four _ (read .read-head .ensures)
           (workOf (args .chars .now) (args .offsets .now)) (args .tokens .now) (args .sentence .now) none),
     )
 

@@ -48,9 +48,12 @@ same-length-8 c = search needs
 
 returns-2 : tie.Need-returns-2
 returns-2 c =
-    let called = c .before .before .before .before .before .before .before .before .before .before .before .before .before .before .before .before .before .before in
+    let called =
+    c .before .before .before .before .before .before .before .before .before .before .before .before .before .before .before .before .before
+    .before in
     let read = called .before .before .before .before .before .before .before .before in
-    loaded-by _ _ _ _ (read .before .before .if1 .left) _ (read .read-head .ensures) _ _ (called .load-dict .ensures .0) _ (c .number-of2 .ensures) _ (c .before .before .before .write-head .ensures)
+    loaded-by _ _ _ _ (read .before .before .if1 .left) _ (read .read-head .ensures) _ _ (called .load-dict .ensures .0) _ (c .number-of2 .ensures) _
+    (c .before .before .before .write-head .ensures)
 
 pub tongsvale-load-spec : {M : Type 1} → statement M
 tongsvale-load-spec =

@@ -16,33 +16,14 @@ read-head-requires c κs = search needs
 lookup-requires : tie.Need-lookup-requires
 lookup-requires c κs = search needs
 
-enum-known-frequency : tie.Need-enum-known-frequency
-enum-known-frequency c = search needs
-
-enum-told : tie.Need-enum-told
-enum-told c = search needs
-
-enum-known-outcome : tie.Need-enum-known-outcome
-enum-known-outcome c = search needs
-
-number-of-requires-2 : tie.Need-number-of-requires-2
-number-of-requires-2 c κs = search needs
+found-numbers-requires : tie.Need-found-numbers-requires
+found-numbers-requires c κs = search needs
 
 returns-2 : tie.Need-returns-2
 returns-2 c =
-    let called = c .before .before .before in
-    found-by _ _ _ _ (called .before .before .if1 .left) _ (called .before .read-head .ensures) _ _ (called .lookup .ensures .1) (c .before .frequency .given .1)
-
-returns-3 : tie.Need-returns-3
-returns-3 c =
-    let called = c .before .before in
-    found-by _ _ _ _ (called .before .before .if1 .left) _ (called .before .read-head .ensures) _ _ (called .lookup .ensures .1) (c .enum-told .given .1)
-
-returns-4 : tie.Need-returns-4
-returns-4 c =
-    let called = c .before .before .before .before in
-    rw (c .number-of2 .ensures)
-    (found-by _ _ _ _ (called .before .before .if1 .left) _ (called .before .read-head .ensures) _ _ (called .lookup .ensures .1) (c .before .before .outcome .given .1))
+    let called = c .before in
+    found-by _ _ _ _ (called .before .before .if1 .left) _ (called .before .read-head .ensures) _ (called .lookup .result)
+    (called .lookup .ensures .1) _ (c .found-numbers .ensures)
 
 pub tongsvale-lookup-spec : {M : Type 1} → statement M
 tongsvale-lookup-spec =
@@ -52,10 +33,5 @@ tongsvale-lookup-spec =
     returns
     read-head-requires
     lookup-requires
-    enum-known-frequency
-    enum-told
-    enum-known-outcome
-    number-of-requires-2
-    returns-2
-    returns-3
-    returns-4)
+    found-numbers-requires
+    returns-2)

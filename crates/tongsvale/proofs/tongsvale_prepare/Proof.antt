@@ -51,8 +51,11 @@ same-length-8 c = search needs
 
 returns-2 : tie.Need-returns-2
 returns-2 c =
-    let called = c .before .before .before .before .before .before .before .before .before .before .before .before .before .before .before .before .before .before .before in
-    prepare-ready _ _ _ _ (called .before .before .before .before .before .before .before .before .if1 .left) _ _ _ _ (called .prepare .ensures .0) _ (c .before .before .before .before .before .value .given .1) _ (c .before .before .write-head .ensures)
+    let called =
+    c .before .before .before .before .before .before .before .before .before .before .before .before .before .before .before .before .before
+    .before .before in
+    prepare-ready _ _ _ _ (called .before .before .before .before .before .before .before .before .if1 .left) _ _ _ _ (called .prepare .ensures .0) _
+    (c .before .before .before .before .before .value .given .1) _ (c .before .before .write-head .ensures)
 
 same-length-9 : tie.Need-same-length-9
 same-length-9 c = search needs
@@ -78,7 +81,8 @@ same-length-15 c = search needs
 returns-3 : tie.Need-returns-3
 returns-3 c =
     let called = c .before .before .before .before .before .before .before .before .before .before .before .before .before .before .before .before in
-    prepare-not _ _ _ _ (called .before .before .before .before .before .before .before .before .if1 .left) _ _ _ _ (called .prepare .ensures .0) _ (c .before .before .outcome .given .1) _ (c .number-of2 .ensures)
+    prepare-not _ _ _ _ (called .before .before .before .before .before .before .before .before .if1 .left) _ _ _ _ (called .prepare .ensures .0) _
+    (c .before .before .outcome .given .1) _ (c .number-of2 .ensures)
 
 pub tongsvale-prepare-spec : {M : Type 1} → statement M
 tongsvale-prepare-spec =

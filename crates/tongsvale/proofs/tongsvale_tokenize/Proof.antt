@@ -1,7 +1,8 @@
--- `tongsvale::tongsvale_tokenize` meets its contract: a head of another length or another mode is refused with every area as it was, else the call's answer in numbers. Assumes nothing.
+-- `tongsvale::tongsvale_tokenize` meets its contract: a head of another length or another mode is refused with every area as it was, else the call's
+-- answer in numbers. Assumes nothing.
 use mathlib.Core.Path.{refl}
 use Rattle.trie.specs.Trie.{trieOf}
-use Rattle.tokenize.specs.Areas.{workOf, roomOf}
+use Rattle.cut_sentence.specs.Areas.{workOf, roomOf}
 use Rattle.tongsvale.proofs.Exports.{tokenize-refused, mode-refused, tokenize-by, not-begun-by}
 use borrow.Author.Needs.{needs}
 use Rattle.tongsvale.proofs.tongsvale_tokenize.Statement.{statement}
@@ -12,8 +13,12 @@ refused-requires c κs = search needs
 
 returns : tie.Need-returns
 returns c =
-    let args = c .before .before .before .before .before .before .before .before .before .before .before .before .before .before .before .before .before .before .args in (
-      tokenize-refused _ _ _ _ _ _ (c .refused .ensures .0) (c .refused .ensures .1) (workOf (args .chars .now) (args .offsets .now) (args .starts .now) (args .scores .now) (args .ends .now) (args .records .now)) _ _ (c .before .if1 .taken) (roomOf (args .edge-ends .now) (args .edge-records .now)) _,
+    let args =
+    c .before .before .before .before .before .before .before .before .before .before .before .before .before .before .before .before .before
+    .before .args in (
+      tokenize-refused _ _ _ _ _ _ (c .refused .ensures .0) (c .refused .ensures .1)
+          (workOf (args .chars .now) (args .offsets .now) (args .starts .now) (args .scores .now) (args .ends .now) (args .records .now)) _ _
+          (c .before .if1 .taken) (roomOf (args .edge-ends .now) (args .edge-records .now)) _,
       λ none. (refl, refl, refl, refl, refl, refl, refl, refl),
     )
 
@@ -22,8 +27,12 @@ refused-requires-2 c κs = search needs
 
 returns-2 : tie.Need-returns-2
 returns-2 c =
-    let args = c .before .before .before .before .before .before .before .before .before .before .before .before .before .before .before .before .before .before .before .args in (
-      mode-refused _ _ _ _ _ _ (c .refused2 .ensures .0) (c .refused2 .ensures .1) (workOf (args .chars .now) (args .offsets .now) (args .starts .now) (args .scores .now) (args .ends .now) (args .records .now)) _ _ (c .before .before .if1 .left) (roomOf (args .edge-ends .now) (args .edge-records .now)) _ (c .before .if2 .taken),
+    let args =
+    c .before .before .before .before .before .before .before .before .before .before .before .before .before .before .before .before .before
+    .before .before .args in (
+      mode-refused _ _ _ _ _ _ (c .refused2 .ensures .0) (c .refused2 .ensures .1)
+          (workOf (args .chars .now) (args .offsets .now) (args .starts .now) (args .scores .now) (args .ends .now) (args .records .now)) _ _
+          (c .before .before .if1 .left) (roomOf (args .edge-ends .now) (args .edge-records .now)) _ (c .before .if2 .taken),
       λ none. (refl, refl, refl, refl, refl, refl, refl, refl),
     )
 
@@ -68,17 +77,24 @@ same-length-9 c = search needs
 
 returns-3 : tie.Need-returns-3
 returns-3 c =
-    let called = c .before .before .before .before .before .before .before .before .before .before .before .before .before .before .before .before .before .before .before in
+    let called =
+    c .before .before .before .before .before .before .before .before .before .before .before .before .before .before .before .before .before
+    .before .before in
     let moded = called .before .before .before .before .before .before .before .before .before .before in
     let read = moded .before in
     let among = read .before .if2 .left in
     let four = read .before .before .if1 .left in
-    let args = read .before .before .before .before .before .before .before .before .before .before .before .before .before .before .before .before .before .before .before .args in (
-      tokenize-by _ _ _ _ four _ (read .read-head .ensures) _ _ _ _ _ _ among _ (moded .mode-of .ensures) (called .tokenize .ensures .0) _ _ (c .returned .ensures .0) (c .returned .ensures .1),
+    let args =
+    read .before .before .before .before .before .before .before .before .before .before .before .before .before .before .before .before .before
+    .before .before .args in (
+      tokenize-by _ _ _ _ four _ (read .read-head .ensures) _ _ _ _ _ _ among _ (moded .mode-of .ensures) (called .tokenize .ensures .0) _ _
+          (c .returned .ensures .0) (c .returned .ensures .1),
       λ none.
           called .tokenize .ensures .1
-          (not-begun-by (args .head .now) (trieOf (args .root-children .now) (args .root-words .now) (args .keys .now) (args .children .now) (args .words .now)) (args .frequencies .now) (args .logarithms .now) four _ (read .read-head .ensures)
-          (workOf (args .chars .now) (args .offsets .now) (args .starts .now) (args .scores .now) (args .ends .now) (args .records .now)) (args .tokens .now) (args .sentence .now) _ among none),
+          (not-begun-by (args .head .now) (trieOf (args .root-children .now) (args .root-words .now) (args .keys .now) (args .children .now)
+          (args .words .now)) (args .frequencies .now) (args .logarithms .now) four _ (read .read-head .ensures)
+          (workOf (args .chars .now) (args .offsets .now) (args .starts .now) (args .scores .now) (args .ends .now) (args .records .now))
+          (args .tokens .now) (args .sentence .now) _ among none),
     )
 
 pub tongsvale-tokenize-spec : {M : Type 1} → statement M

@@ -1,4 +1,5 @@
--- `utf8::char_count` meets its contract. The loop's invariant: the characters counted so far and those from the position on make the count of the whole. Each turn passes the character that was read.
+-- `utf8::char_count` meets its contract. The loop's invariant: the characters counted so far and those from the position on make the count of the whole.
+-- Each turn passes the character that was read.
 -- Assumes nothing.
 use mathlib.Core.Path.{_≡_, sym, _∙_}
 use Prim.Native.Nat.{_≤_, _-_}
@@ -35,7 +36,12 @@ loop-less : tie.Need-loop-less Inv-loop μ-loop
 loop-less c = omega (arith, inside _ _ _ _ (sym (c .before .before .before .read-char .ensures) ∙ c .before .w .given .1))
 
 loop-again : tie.Need-loop-again Inv-loop μ-loop
-loop-again c = (omega (arith, inside _ _ _ _ (sym (c .before .before .before .read-char .ensures) ∙ c .before .w .given .1)), omega (arith, inside _ _ _ _ (sym (c .before .before .before .read-char .ensures) ∙ c .before .w .given .1)), count-char _ _ _ _ (c .before .before .before .before .before .loop .inv .2) _ _ (sym (c .before .before .before .read-char .ensures) ∙ c .before .w .given .1))
+loop-again c = (
+  omega (arith, inside _ _ _ _ (sym (c .before .before .before .read-char .ensures) ∙ c .before .w .given .1)),
+  omega (arith, inside _ _ _ _ (sym (c .before .before .before .read-char .ensures) ∙ c .before .w .given .1)),
+  count-char _ _ _ _ (c .before .before .before .before .before .loop .inv .2) _ _
+      (sym (c .before .before .before .read-char .ensures) ∙ c .before .w .given .1),
+)
 
 enum-told : tie.Need-enum-told Inv-loop μ-loop
 enum-told c = search needs

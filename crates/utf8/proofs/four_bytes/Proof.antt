@@ -10,13 +10,18 @@ sub-value : tie.Need-sub-value
 sub-value c = search needs
 
 returns : tie.Need-returns
-returns c = λ b0 b1 b2 b3 rest t1 t2 t3 lead e. overlong-4 b0 b1 b2 b3 _ rest t1 t2 t3 lead e (c .before .args .c - 0x3C82080) (omega (arith, c .before .pre)) (omega (arith, c .if1 .taken))
+returns c = λ b0 b1 b2 b3 rest t1 t2 t3 lead e.
+    overlong-4 b0 b1 b2 b3 _ rest t1 t2 t3 lead e (c .before .args .c - 0x3C82080) (omega (arith, c .before .pre)) (omega (arith, c .if1 .taken))
 
 returns-2 : tie.Need-returns-2
-returns-2 c = λ b0 b1 b2 b3 rest t1 t2 t3 lead e. beyond-4 b0 b1 b2 b3 _ rest t1 t2 t3 lead e (c .before .before .args .c - 0x3C82080) (omega (arith, c .before .before .pre)) (omega (arith, c .if2 .taken))
+returns-2 c = λ b0 b1 b2 b3 rest t1 t2 t3 lead e.
+    beyond-4 b0 b1 b2 b3 _ rest t1 t2 t3 lead e (c .before .before .args .c - 0x3C82080) (omega (arith, c .before .before .pre))
+    (omega (arith, c .if2 .taken))
 
 returns-3 : tie.Need-returns-3
-returns-3 c = λ b0 b1 b2 b3 rest t1 t2 t3 lead e. char-4 b0 b1 b2 b3 _ rest t1 t2 t3 lead e _ (omega (arith, c .before .before .pre)) (omega (arith, c .before .if1 .left)) (omega (arith, c .if2 .left))
+returns-3 c = λ b0 b1 b2 b3 rest t1 t2 t3 lead e.
+    char-4 b0 b1 b2 b3 _ rest t1 t2 t3 lead e _ (omega (arith, c .before .before .pre)) (omega (arith, c .before .if1 .left))
+    (omega (arith, c .if2 .left))
 
 pub four-bytes-spec : {M : Type 1} → statement M
 four-bytes-spec = tie.close (tie.spec sub-value returns returns-2 returns-3)

@@ -29,26 +29,32 @@ second c = c .before .before .before
 abbrev third : tie.After-wide4 → tie.After-wide3
 third c = c .before .before .before
 
-by-two : (c : tie.Then2) → Spells (text (first (c .before))) (position (first (c .before))) (first (c .before) .wide .result * 0x40 + c .before .wide2 .result) 0x3080 2
+by-two : (c : tie.Then2) → Spells (text (first (c .before))) (position (first (c .before)))
+    (first (c .before) .wide .result * 0x40 + c .before .wide2 .result) 0x3080 2
 by-two c =
     let b1 = c .before in
     let b0 = first b1 in
     next-2 _ _ (lent b0 .pre .0) (lent b0 .pre .1) _ (b0 .wide .ensures .0) _ (b1 .wide2 .ensures .0) (b1 .before .before .if1 .left) (c .if2 .taken)
 
-by-three : (c : tie.Then3) → Spells (text (first (second (c .before)))) (position (first (second (c .before)))) ((first (second (c .before)) .wide .result * 0x40 + second (c .before) .wide2 .result) * 0x40 + c .before .wide3 .result) 0xE2080 3
+by-three : (c : tie.Then3) → Spells (text (first (second (c .before)))) (position (first (second (c .before))))
+    ((first (second (c .before)) .wide .result * 0x40 + second (c .before) .wide2 .result) * 0x40 + c .before .wide3 .result) 0xE2080 3
 by-three c =
     let b2 = c .before in
     let b1 = second b2 in
     let b0 = first b1 in
-    next-3 _ _ (lent b0 .pre .0) (lent b0 .pre .1) _ (b0 .wide .ensures .0) _ (b1 .wide2 .ensures .0) _ (b2 .wide3 .ensures .0) (b2 .before .before .if2 .left) (c .if3 .taken)
+    next-3 _ _ (lent b0 .pre .0) (lent b0 .pre .1) _ (b0 .wide .ensures .0) _ (b1 .wide2 .ensures .0) _ (b2 .wide3 .ensures .0)
+    (b2 .before .before .if2 .left) (c .if3 .taken)
 
 by-four : (c : tie.After-wide4)
-    → Spells (text (first (second (third c)))) (position (first (second (third c)))) (((first (second (third c)) .wide .result * 0x40 + second (third c) .wide2 .result) * 0x40 + third c .wide3 .result) * 0x40 + c .wide4 .result) 0x3C82080 4
+    → Spells (text (first (second (third c)))) (position (first (second (third c))))
+    (((first (second (third c)) .wide .result * 0x40 + second (third c) .wide2 .result) * 0x40 + third c .wide3 .result) * 0x40 + c .wide4 .result)
+    0x3C82080 4
 by-four c =
     let b2 = third c in
     let b1 = second b2 in
     let b0 = first b1 in
-    next-4 _ _ (lent b0 .pre .0) (lent b0 .pre .1) _ (b0 .wide .ensures .0) _ (b1 .wide2 .ensures .0) _ (b2 .wide3 .ensures .0) _ (c .wide4 .ensures .0) (c .before .before .if3 .left)
+    next-4 _ _ (lent b0 .pre .0) (lent b0 .pre .1) _ (b0 .wide .ensures .0) _ (b1 .wide2 .ensures .0) _ (b2 .wide3 .ensures .0) _
+    (c .wide4 .ensures .0) (c .before .before .if3 .left)
 
 -- ---- what is needed
 
@@ -89,7 +95,8 @@ add-wide-2 : tie.Need-add-wide-2
 add-wide-2 c = search needs
 
 shared-slice-read-wide-3 : tie.Need-shared-slice-read-wide-3
-shared-slice-read-wide-3 c = let b0 = first (c .before .before) in third-within _ _ (lent b0 .pre .0) (lent b0 .pre .1) _ (b0 .wide .ensures .0) (c .before .if2 .left)
+shared-slice-read-wide-3 c = let b0 = first (c .before .before) in
+    third-within _ _ (lent b0 .pre .0) (lent b0 .pre .1) _ (b0 .wide .ensures .0) (c .before .if2 .left)
 
 wide-requires-3 : tie.Need-wide-requires-3
 wide-requires-3 c κs = search needs
@@ -110,7 +117,8 @@ add-wide-3 : tie.Need-add-wide-3
 add-wide-3 c = search needs
 
 shared-slice-read-wide-4 : tie.Need-shared-slice-read-wide-4
-shared-slice-read-wide-4 c = let b0 = first (second (c .before .before)) in fourth-within _ _ (lent b0 .pre .0) (lent b0 .pre .1) _ (b0 .wide .ensures .0) (c .before .if3 .left)
+shared-slice-read-wide-4 c = let b0 = first (second (c .before .before)) in
+    fourth-within _ _ (lent b0 .pre .0) (lent b0 .pre .1) _ (b0 .wide .ensures .0) (c .before .if3 .left)
 
 wide-requires-4 : tie.Need-wide-requires-4
 wide-requires-4 c κs = search needs

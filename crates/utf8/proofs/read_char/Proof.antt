@@ -38,7 +38,8 @@ third c = c .before .tail-at2 .ensures .there (omega (arith, c .if5 .left))
 abbrev after-third : tie.Else7 → tie.Else5
 after-third c = c .before .before .before
 
-fourth : (c : tie.Else7) → TailIs (text (after-first (after-second (after-third c)))) (position (after-first (after-second (after-third c))) + 3) (c .before .tail-at3 .result)
+fourth : (c : tie.Else7) → TailIs (text (after-first (after-second (after-third c)))) (position (after-first (after-second (after-third c))) + 3)
+    (c .before .tail-at3 .result)
 fourth c = c .before .tail-at3 .ensures .there (omega (arith, c .if7 .left))
 
 -- ---- what is needed
@@ -86,7 +87,8 @@ tail-at-requires-2 : tie.Need-tail-at-requires-2
 tail-at-requires-2 c κs = search needs
 
 returns-5 : tie.Need-returns-5
-returns-5 c = let b1 = c .before .before .before in no-third _ _ _ (first (after-first b1)) (omega arith) _ (c .if5 .taken) (c .before .tail-at2 .ensures) (c .before .before .if4 .left)
+returns-5 c = let b1 = c .before .before .before in
+    no-third _ _ _ (first (after-first b1)) (omega arith) _ (c .if5 .taken) (c .before .tail-at2 .ensures) (c .before .before .if4 .left)
 
 mul-c2 : tie.Need-mul-c2
 mul-c2 c = omega (arith, second (after-second c) .2 .1)
@@ -111,7 +113,9 @@ tail-at-requires-3 : tie.Need-tail-at-requires-3
 tail-at-requires-3 c κs = search needs
 
 returns-7 : tie.Need-returns-7
-returns-7 c = let b2 = c .before .before .before in no-fourth _ _ _ (first (after-first (after-second b2))) (omega arith) _ (c .if7 .taken) (c .before .tail-at3 .ensures) (c .before .before .if6 .left)
+returns-7 c = let b2 = c .before .before .before in
+    no-fourth _ _ _ (first (after-first (after-second b2))) (omega arith) _ (c .if7 .taken) (c .before .tail-at3 .ensures)
+    (c .before .before .if6 .left)
 
 mul-four-bytes : tie.Need-mul-four-bytes
 mul-four-bytes c = omega (arith, second (after-second (after-third c)) .2 .1, third (after-third c) .2 .1)

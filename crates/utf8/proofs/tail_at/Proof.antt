@@ -14,7 +14,11 @@ returns : tie.Need-returns
 returns c =
     record {
       missing = λ zero within tail. omega (arith, c .before .if2 .taken, c .wide .ensures .0);
-      there = λ some-byte. (omega (arith, c .before .before .before .if1 .taken), c .wide .ensures .0, (omega (arith, c .before .if2 .taken), omega (arith, c .before .if2 .taken)));
+      there = λ some-byte. (
+        omega (arith, c .before .before .before .if1 .taken),
+        c .wide .ensures .0,
+        (omega (arith, c .before .if2 .taken), omega (arith, c .before .if2 .taken)),
+      );
     }
 
 returns-2 : tie.Need-returns-2

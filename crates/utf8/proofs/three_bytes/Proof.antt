@@ -10,10 +10,12 @@ sub-value : tie.Need-sub-value
 sub-value c = search needs
 
 returns : tie.Need-returns
-returns c = λ b0 b1 b2 rest t1 t2 lead e. overlong-3 b0 b1 b2 _ rest t1 t2 lead e (c .before .args .c - 0xE2080) (omega (arith, c .before .pre)) (omega (arith, c .if1 .taken))
+returns c = λ b0 b1 b2 rest t1 t2 lead e. overlong-3 b0 b1 b2 _ rest t1 t2 lead e (c .before .args .c - 0xE2080) (omega (arith, c .before .pre))
+    (omega (arith, c .if1 .taken))
 
 returns-2 : tie.Need-returns-2
-returns-2 c = λ b0 b1 b2 rest t1 t2 lead e. surrogate-3 b0 b1 b2 _ rest t1 t2 lead e (c .before .before .args .c - 0xE2080) (omega (arith, c .before .before .pre)) (omega (arith, c .if2 .taken))
+returns-2 c = λ b0 b1 b2 rest t1 t2 lead e. surrogate-3 b0 b1 b2 _ rest t1 t2 lead e (c .before .before .args .c - 0xE2080)
+    (omega (arith, c .before .before .pre)) (omega (arith, c .if2 .taken))
 
 returns-3 : tie.Need-returns-3
 returns-3 c = λ b0 b1 b2 rest t1 t2 lead e. char-3 b0 b1 b2 _ rest t1 t2 lead e _ (omega (arith, c .before .before .pre)) (c .before .if1 .left) (c .if2 .left)

@@ -16,7 +16,8 @@ enum-told c = search needs
 returns : tie.Need-returns
 returns c =
     let counted = c .before .before in
-    λ rootWords words keys children cs all. absurd (count-known _ _ (counted .before .before .before .pre) _ (counted .char-count .ensures) (c .enum-told .given .1))
+    λ rootWords words keys children cs all. absurd
+    (count-known _ _ (counted .before .before .before .pre) _ (counted .char-count .ensures) (c .enum-told .given .1))
 
 from-root-requires : tie.Need-from-root-requires
 from-root-requires c κs = search needs

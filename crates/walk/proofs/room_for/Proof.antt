@@ -22,7 +22,8 @@ Inv-loop root-children root-words keys children words shift used s at₀ place�
     (at ≤ length s)
     × Inside (length root-children) (length keys) place
     × IsSome (charsFrom s at)
-    × (roomFrom used (trieOf root-children root-words keys children words) place (charsFrom s at) ≡ roomOf used (trieOf root-children root-words keys children words) (charsOf s))
+    × (roomFrom used (trieOf root-children root-words keys children words) place (charsFrom s at)
+    ≡ roomOf used (trieOf root-children root-words keys children words) (charsOf s))
 
 abbrev μ-loop : tie.MeasureT-loop
 μ-loop root-children root-words keys children words shift used s at₀ place₀ at place = length s - at

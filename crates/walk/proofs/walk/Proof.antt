@@ -27,7 +27,13 @@ abbrev μ-loop : tie.MeasureT-loop
 μ-loop root-children keys children shift s at₀ place₀ at place = length s - at
 
 loop-holds : tie.Need-loop-holds Inv-loop μ-loop
-loop-holds c = (omega arith, starts-inside _ _, chars-start _ (c .before .before .before .before .pre .1 .1), λ rootWords words. ap (walkFrom _ Root) (from-start _))
+loop-holds c = (
+  omega arith,
+  starts-inside _ _,
+  chars-start _ (c .before .before .before .before .pre .1 .1),
+  λ rootWords words.
+      ap (walkFrom _ Root) (from-start _),
+)
 
 next-char-requires : tie.Need-next-char-requires Inv-loop μ-loop
 next-char-requires c κs = search needs

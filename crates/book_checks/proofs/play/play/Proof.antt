@@ -9,10 +9,14 @@ use Rattle.book_checks.proofs.play.play.Statement.{statement}
 use Rattle.book_checks.proofs.play.play.Tie as tie
 
 abbrev Inv-loop : tie.InvT-loop
-Inv-loop root-children₀ root-words₀ keys₀ children₀ words₀ frequencies₀ logarithms₀ script state₀ at₀ root-children root-words keys children words frequencies logarithms state at = (length root-children ≡ length root-children₀) × (length root-words ≡ length root-words₀) × (length keys ≡ length keys₀) × (length children ≡ length children₀) × (length words ≡ length words₀) × (length frequencies ≡ length frequencies₀) × (length logarithms ≡ length logarithms₀)
+Inv-loop root-children₀ root-words₀ keys₀ children₀ words₀ frequencies₀ logarithms₀ script state₀ at₀ root-children root-words keys children words
+    frequencies logarithms state at = (length root-children ≡ length root-children₀) × (length root-words ≡ length root-words₀)
+    × (length keys ≡ length keys₀) × (length children ≡ length children₀) × (length words ≡ length words₀)
+    × (length frequencies ≡ length frequencies₀) × (length logarithms ≡ length logarithms₀)
 
 abbrev μ-loop : tie.MeasureT-loop
-μ-loop root-children₀ root-words₀ keys₀ children₀ words₀ frequencies₀ logarithms₀ script state₀ at₀ root-children root-words keys children words frequencies logarithms state at = length script - at
+μ-loop root-children₀ root-words₀ keys₀ children₀ words₀ frequencies₀ logarithms₀ script state₀ at₀ root-children root-words keys children words
+    frequencies logarithms state at = length script - at
 
 start-requires : tie.Need-start-requires Inv-loop μ-loop
 start-requires c κs = search needs

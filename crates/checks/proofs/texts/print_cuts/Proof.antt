@@ -1,4 +1,5 @@
--- `checks::texts::print_cuts` is safe and ends. The cut is at most the character's length, and `text` keeps its length, so that it has room for the byte after the cut.
+-- `checks::texts::print_cuts` is safe and ends. The cut is at most the character's length, and `text` keeps its length, so that it has room for the byte
+-- after the cut.
 -- Assumes nothing.
 use mathlib.Core.Path.{_≡_}
 use Prim.Native.Nat.{_≤_, _-_}

@@ -8,7 +8,8 @@ use Rattle.cut_checks.proofs.stores.play_on_root.Statement.{statement}
 use Rattle.cut_checks.proofs.stores.play_on_root.Tie as tie
 
 abbrev Inv-loop : tie.InvT-loop
-Inv-loop root-children₀ root-words₀ stores at₀ root-children root-words at = (length root-children ≡ length root-children₀) × (length root-words ≡ length root-words₀)
+Inv-loop root-children₀ root-words₀ stores at₀ root-children root-words at =
+    (length root-children ≡ length root-children₀) × (length root-words ≡ length root-words₀)
 
 abbrev μ-loop : tie.MeasureT-loop
 μ-loop root-children₀ root-words₀ stores at₀ root-children root-words at = length stores - at

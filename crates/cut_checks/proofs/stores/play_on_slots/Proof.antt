@@ -8,7 +8,8 @@ use Rattle.cut_checks.proofs.stores.play_on_slots.Statement.{statement}
 use Rattle.cut_checks.proofs.stores.play_on_slots.Tie as tie
 
 abbrev Inv-loop : tie.InvT-loop
-Inv-loop keys₀ children₀ words₀ stores at₀ keys children words at = (length keys ≡ length keys₀) × (length children ≡ length children₀) × (length words ≡ length words₀)
+Inv-loop keys₀ children₀ words₀ stores at₀ keys children words at =
+    (length keys ≡ length keys₀) × (length children ≡ length children₀) × (length words ≡ length words₀)
 
 abbrev μ-loop : tie.MeasureT-loop
 μ-loop keys₀ children₀ words₀ stores at₀ keys children words at = length stores - at

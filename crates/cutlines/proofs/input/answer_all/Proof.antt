@@ -9,12 +9,16 @@ use Rattle.cutlines.proofs.input.answer_all.Statement.{statement}
 use Rattle.cutlines.proofs.input.answer_all.Tie as tie
 
 abbrev Inv-loop : tie.InvT-loop
-Inv-loop root-children₀ root-words₀ keys₀ children₀ words₀ frequencies₀ logarithms₀ space₀ line₀ head₀ kept₀ blocks₀ root-children root-words keys children words frequencies logarithms space line head kept blocks =
-    (length root-children ≡ length root-children₀) × (length root-words ≡ length root-words₀) × (length keys ≡ length keys₀) × (length children ≡ length children₀) × (length words ≡ length words₀) × (length frequencies ≡ length frequencies₀) × (length logarithms ≡ length logarithms₀)
+Inv-loop root-children₀ root-words₀ keys₀ children₀ words₀ frequencies₀ logarithms₀ space₀ line₀ head₀ kept₀ blocks₀ root-children root-words keys
+    children words frequencies logarithms space line head kept blocks =
+    (length root-children ≡ length root-children₀) × (length root-words ≡ length root-words₀) × (length keys ≡ length keys₀)
+    × (length children ≡ length children₀) × (length words ≡ length words₀) × (length frequencies ≡ length frequencies₀)
+    × (length logarithms ≡ length logarithms₀)
     × (length space ≡ 65536) × (length line ≡ mostKept) × (kept ≤ mostKept)
 
 abbrev μ-loop : tie.MeasureT-loop
-μ-loop root-children₀ root-words₀ keys₀ children₀ words₀ frequencies₀ logarithms₀ space₀ line₀ head₀ kept₀ blocks₀ root-children root-words keys children words frequencies logarithms space line head kept blocks = blocks
+μ-loop root-children₀ root-words₀ keys₀ children₀ words₀ frequencies₀ logarithms₀ space₀ line₀ head₀ kept₀ blocks₀ root-children root-words keys
+    children words frequencies logarithms space line head kept blocks = blocks
 
 loop-holds : tie.Need-loop-holds Inv-loop μ-loop
 loop-holds c = search needs
@@ -32,7 +36,8 @@ array-share-prefix-space : tie.Need-array-share-prefix-space Inv-loop μ-loop
 array-share-prefix-space c = search needs
 
 slice-aggregate-answer-lines : tie.Need-slice-aggregate-answer-lines Inv-loop μ-loop
-slice-aggregate-answer-lines c = simp length-take (omega (arith, c .before .before .before .before .before .before .before .before .before .read-block .ensures))
+slice-aggregate-answer-lines c = simp length-take
+    (omega (arith, c .before .before .before .before .before .before .before .before .before .read-block .ensures))
 
 slice-aggregate-answer-lines-2 : tie.Need-slice-aggregate-answer-lines-2 Inv-loop μ-loop
 slice-aggregate-answer-lines-2 c = search needs
@@ -43,43 +48,55 @@ answer-lines-requires c κs = search needs
 same-length : tie.Need-same-length Inv-loop μ-loop
 same-length c =
     let lines = c .before .before .before .before .before .before .before .before .before .before .before .before .before .before in
-    lines .answer-lines .kept .1 .0 ∙ lines .before .before .before .before .before .before .before .before .before .before .before .before .before .before .loop .inv .0
+    lines .answer-lines .kept .1 .0
+    ∙ lines .before .before .before .before .before .before .before .before .before .before .before .before .before .before .loop .inv .0
 
 same-length-2 : tie.Need-same-length-2 Inv-loop μ-loop
 same-length-2 c =
     let lines = c .before .before .before .before .before .before .before .before .before .before .before .before .before .before in
-    lines .answer-lines .kept .1 .1 .0 ∙ lines .before .before .before .before .before .before .before .before .before .before .before .before .before .before .loop .inv .1
+    lines .answer-lines .kept .1 .1 .0
+    ∙ lines .before .before .before .before .before .before .before .before .before .before .before .before .before .before .loop .inv .1
 
 same-length-3 : tie.Need-same-length-3 Inv-loop μ-loop
 same-length-3 c =
     let lines = c .before .before .before .before .before .before .before .before .before .before .before .before .before .before in
-    lines .answer-lines .kept .1 .1 .1 .0 ∙ lines .before .before .before .before .before .before .before .before .before .before .before .before .before .before .loop .inv .2
+    lines .answer-lines .kept .1 .1 .1 .0
+    ∙ lines .before .before .before .before .before .before .before .before .before .before .before .before .before .before .loop .inv .2
 
 same-length-4 : tie.Need-same-length-4 Inv-loop μ-loop
 same-length-4 c =
     let lines = c .before .before .before .before .before .before .before .before .before .before .before .before .before .before in
-    lines .answer-lines .kept .1 .1 .1 .1 .0 ∙ lines .before .before .before .before .before .before .before .before .before .before .before .before .before .before .loop .inv .3
+    lines .answer-lines .kept .1 .1 .1 .1 .0
+    ∙ lines .before .before .before .before .before .before .before .before .before .before .before .before .before .before .loop .inv .3
 
 same-length-5 : tie.Need-same-length-5 Inv-loop μ-loop
 same-length-5 c =
     let lines = c .before .before .before .before .before .before .before .before .before .before .before .before .before .before in
-    lines .answer-lines .kept .1 .1 .1 .1 .1 .0 ∙ lines .before .before .before .before .before .before .before .before .before .before .before .before .before .before .loop .inv .4
+    lines .answer-lines .kept .1 .1 .1 .1 .1 .0
+    ∙ lines .before .before .before .before .before .before .before .before .before .before .before .before .before .before .loop .inv .4
 
 same-length-6 : tie.Need-same-length-6 Inv-loop μ-loop
 same-length-6 c =
     let lines = c .before .before .before .before .before .before .before .before .before .before .before .before .before .before in
-    lines .answer-lines .kept .1 .1 .1 .1 .1 .1 .0 ∙ lines .before .before .before .before .before .before .before .before .before .before .before .before .before .before .loop .inv .5
+    lines .answer-lines .kept .1 .1 .1 .1 .1 .1 .0
+    ∙ lines .before .before .before .before .before .before .before .before .before .before .before .before .before .before .loop .inv .5
 
 same-length-7 : tie.Need-same-length-7 Inv-loop μ-loop
 same-length-7 c =
     let lines = c .before .before .before .before .before .before .before .before .before .before .before .before .before .before in
-    lines .answer-lines .kept .1 .1 .1 .1 .1 .1 .1 .0 ∙ lines .before .before .before .before .before .before .before .before .before .before .before .before .before .before .loop .inv .6
+    lines .answer-lines .kept .1 .1 .1 .1 .1 .1 .1 .0
+    ∙ lines .before .before .before .before .before .before .before .before .before .before .before .before .before .before .loop .inv .6
 
 returns : tie.Need-returns Inv-loop μ-loop
 returns c = search needs
 
 loop-less : tie.Need-loop-less Inv-loop μ-loop
-loop-less c = omega (arith, c .before .before .before .before .before .before .before .before .before .before .before .before .before .before .before .before .before .before .before .before .before .before .before .before .before .before .before .before .before .before .loop-test .taken)
+loop-less c =
+    omega (
+      arith,
+      c .before .before .before .before .before .before .before .before .before .before .before .before .before .before .before .before .before .before
+          .before .before .before .before .before .before .before .before .before .before .before .before .loop-test .taken,
+    )
 
 loop-again : tie.Need-loop-again Inv-loop μ-loop
 loop-again c =

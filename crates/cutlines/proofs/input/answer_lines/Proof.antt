@@ -10,12 +10,16 @@ use Rattle.cutlines.proofs.input.answer_lines.Statement.{statement}
 use Rattle.cutlines.proofs.input.answer_lines.Tie as tie
 
 abbrev Inv-loop : tie.InvT-loop
-Inv-loop root-children₀ root-words₀ keys₀ children₀ words₀ frequencies₀ logarithms₀ input line₀ had out₀ end₀ head₀ kept₀ at₀ root-children root-words keys children words frequencies logarithms line out end head kept at =
-    (length root-children ≡ length root-children₀) × (length root-words ≡ length root-words₀) × (length keys ≡ length keys₀) × (length children ≡ length children₀) × (length words ≡ length words₀) × (length frequencies ≡ length frequencies₀) × (length logarithms ≡ length logarithms₀) × (length line ≡ length line₀)
+Inv-loop root-children₀ root-words₀ keys₀ children₀ words₀ frequencies₀ logarithms₀ input line₀ had out₀ end₀ head₀ kept₀ at₀ root-children root-words
+    keys children words frequencies logarithms line out end head kept at =
+    (length root-children ≡ length root-children₀) × (length root-words ≡ length root-words₀) × (length keys ≡ length keys₀)
+    × (length children ≡ length children₀) × (length words ≡ length words₀) × (length frequencies ≡ length frequencies₀)
+    × (length logarithms ≡ length logarithms₀) × (length line ≡ length line₀)
     × (length out ≡ 65536) × (end ≤ 65536) × (kept ≤ mostKept)
 
 abbrev μ-loop : tie.MeasureT-loop
-μ-loop root-children₀ root-words₀ keys₀ children₀ words₀ frequencies₀ logarithms₀ input line₀ had out₀ end₀ head₀ kept₀ at₀ root-children root-words keys children words frequencies logarithms line out end head kept at = length input - at
+μ-loop root-children₀ root-words₀ keys₀ children₀ words₀ frequencies₀ logarithms₀ input line₀ had out₀ end₀ head₀ kept₀ at₀ root-children root-words
+    keys children words frequencies logarithms line out end head kept at = length input - at
 
 loop-holds : tie.Need-loop-holds Inv-loop μ-loop
 loop-holds c = search needs
@@ -72,7 +76,9 @@ answer-line-requires c κs = search needs
 
 loop-less : tie.Need-loop-less Inv-loop μ-loop
 loop-less c =
-    let take = c .before .before .before .before .before .before .before .before .before .before .before .before .before .before .before .before .before .before .before .before .before .before .before .before .before .before .before .before .before .before .before in
+    let take =
+    c .before .before .before .before .before .before .before .before .before .before .before .before .before .before .before .before .before
+    .before .before .before .before .before .before .before .before .before .before .before .before .before .before in
     omega (arith, take .take-line .ensures .1, take .before .before .loop-test .taken)
 
 loop-again : tie.Need-loop-again Inv-loop μ-loop

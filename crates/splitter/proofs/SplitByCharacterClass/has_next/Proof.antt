@@ -1,4 +1,5 @@
--- `splitter::SplitByCharacterClass::has_next` meets its contract: a walk of its MIR, by hand. The struct is taken apart, and `is_within` is called on the text and
+-- `splitter::SplitByCharacterClass::has_next` meets its contract: a walk of its MIR, by hand. The struct is taken apart, and `is_within` is called on the
+-- text and
 -- the position. All that the proof knows of `is_within` is that it meets its contract: its answer is the one here.
 -- Assumes nothing.
 use mathlib.Core.Path.{_≡_, refl}
@@ -18,7 +19,8 @@ use contract.Monad.{Fun, fact}
 use contract.Running.{givenOf, tables, tablesOf}
 use types.Kit.{Given, ‵, raw, _⊛_, ⋆, some, later, _$_, _∵_, !, qed, by, move, drop, use1, split, join, pick, fsplit, fjoin, suffices, frame, await, done}
 use types.Part.{whole, sub, look-in}
-use types.Run.{look, init, forget, stop, fld, from, load, of-opd, and-then, no-more, assigns, land, returns, enter, alloc1, alloc0, params1, pass1, pass0, free1, free0}
+use types.Run.{look, init, forget, stop, fld, from, load, of-opd, and-then, no-more, assigns, land, returns, enter, alloc1, alloc0, params1, pass1, pass0}
+use types.Run.{free1, free0}
 use sound.WpLaws.{FmC, fmOf, WpFn-mono}
 use denote.RattleType.{owns}
 use denote.Laws.{Is, shows}
@@ -56,7 +58,8 @@ module _ {M : Type 1} (𝓤 : URA M) (H : Heap 𝓤) (A : Atoms 𝓤) (mem : Mem
   abbrev IsWithin : Contract 𝓤
   IsWithin = tripleOf 𝓤 H A step.signature (step.spec 𝓤 H A mem run)
 
-module _ {M : Type 1} (𝓤 : URA M) (H : Heap 𝓤) (A : Atoms 𝓤) (W : Given 𝓤 H A) (mem : Memory → SProp 𝓤) (run : Routine → Fun 𝓤) (κ : Lft) (q : Share) (d : SplitByCharacterClass) where
+module _ {M : Type 1} (𝓤 : URA M) (H : Heap 𝓤) (A : Atoms 𝓤) (W : Given 𝓤 H A) (mem : Memory → SProp 𝓤) (run : Routine → Fun 𝓤) (κ : Lft) (q : Share)
+    (d : SplitByCharacterClass) where
   abbrev mach : Val
   mach = splitterOf (d .text) (d .pos)
 
@@ -76,8 +79,10 @@ module _ {M : Type 1} (𝓤 : URA M) (H : Heap 𝓤) (A : Atoms 𝓤) (W : Given
   goes : d .pos < 2 ^ 64 → ent 𝓤 Pre (IsWithin 𝓤 H A mem run .pre to)
   goes fits =
       qed W ((‵ (flft κ q) ⊛ ‵ ftrue) ∷ ‵ (owns (Splitter (κ, tt) ∷ []) (d, tt) (mach ∷ [], tt)) ∷ []) ∵
-      move ! (1 ∷ []) $ fsplit ! $ move ! (1 ∷ []) $ drop ! $ use1 W (‵ (Bytes κ .own (d .text) (sliceOf (d .text) ∷ []))) (let-go 𝓤 H A W κ (d .text) (d .pos)) $
-      nothing ! $ owned ! usize (Is usize) (uint-makes 𝓤 H A W w64) (d .pos) _ (refl, fits) $ fjoin ! $ move ! (1 ∷ 0 ∷ []) $ fjoin ! $ move ! (1 ∷ 0 ∷ []) $ join ! $ frame ! $ done !
+      move ! (1 ∷ []) $ fsplit ! $ move ! (1 ∷ []) $ drop ! $ use1 W (‵ (Bytes κ .own (d .text) (sliceOf (d .text) ∷ [])))
+      (let-go 𝓤 H A W κ (d .text) (d .pos)) $
+      nothing ! $ owned ! usize (Is usize) (uint-makes 𝓤 H A W w64) (d .pos) _ (refl, fits) $ fjoin ! $ move ! (1 ∷ 0 ∷ []) $ fjoin ! $ move !
+      (1 ∷ 0 ∷ []) $ join ! $ frame ! $ done !
 
   said : (r : Bool) → ent 𝓤 (ensured 𝓤 H A step.ended (step.clauses 𝓤 H A mem run) (κ, tt) (d .text, (d .pos, tt)) tt r) (fact 𝓤 (r ≡ hasNext d))
   said r = exE 𝓤 _ (λ ws. snd∗ 𝓤 (sem 𝓤 H A (lasts step.ended (κ, tt) (d .text, (d .pos, tt)) ws)) (fact 𝓤 (r ≡ hasNext d)))
@@ -85,7 +90,8 @@ module _ {M : Type 1} (𝓤 : URA M) (H : Heap 𝓤) (A : Atoms 𝓤) (W : Given
   exits : (r : Bool) (u : Val) → r ≡ hasNext d → ent 𝓤 (⋆ 𝓤 H A (‵ (Boolean .own r (u ∷ [])) ∷ (‵ (flft κ q) ⊛ ‵ ftrue) ∷ [])) (Post u)
   exits r u e =
       qed W (‵ (Boolean .own r (u ∷ [])) ∷ (‵ (flft κ q) ⊛ ‵ ftrue) ∷ []) ∵
-      suffices ! _ (ends-at 𝓤 H A has-next.ended stayed (has-next.clauses 𝓤 H A mem run) W (((κ, tt), (q, tt), tt, (d, tt), (mach ∷ [], tt)), tt) u r (tt, tt) (tt, tt)) $ says ! e $
+      suffices ! _ (ends-at 𝓤 H A has-next.ended stayed (has-next.clauses 𝓤 H A mem run) W (((κ, tt), (q, tt), tt, (d, tt), (mach ∷ [], tt)), tt) u r
+      (tt, tt) (tt, tt)) $ says ! e $
       move ! (1 ∷ []) $ frame ! $ nothing ! $ nothing ! $ fjoin ! $ frame ! $ done !
 
   module _ (C : Calls 𝓤 H) (Λ : Loops 𝓤 H) (fm : FmC 𝓤 H (W .laws) C) (known : Triple 𝓤 (C #is-within) (IsWithin 𝓤 H A mem run)) where
@@ -94,24 +100,31 @@ module _ {M : Type 1} (𝓤 : URA M) (H : Heap 𝓤) (A : Atoms 𝓤) (W : Given
         let typed = LL.lawful (Shape (κ, tt)) (shaped (κ, tt)) 𝓤 H A W .typed d (mach ∷ []) p .0 in
         qed W (raw Pre ∷ []) ∵ enter ! C Λ code.function (mach ∷ []) _ $
         alloc1 ! (λ l₀. alloc1 ! (λ l₁. alloc1 ! (λ l₂. alloc1 ! (λ l₃. alloc0 ! $ params1 ! $ pass1 ! (init ! 4 refl typed) $ pass0 ! $
-        assigns ! (of-opd ! (load ! (from ! (fld ! refl (stop !))) (look-in ! 4 (sub ! 0 refl (whole !))))) (from ! (stop !)) (init ! 2 refl (tt, typed .1 .0)) $
-        assigns ! (of-opd ! (load ! (from ! (fld ! refl (stop !))) (look-in ! 4 (sub ! 1 refl (whole !))))) (from ! (stop !)) (init ! 0 refl (tt, typed .1 .1 .0)) $
+        assigns ! (of-opd ! (load ! (from ! (fld ! refl (stop !))) (look-in ! 4 (sub ! 0 refl (whole !))))) (from ! (stop !))
+        (init ! 2 refl (tt, typed .1 .0)) $
+        assigns ! (of-opd ! (load ! (from ! (fld ! refl (stop !))) (look-in ! 4 (sub ! 1 refl (whole !))))) (from ! (stop !))
+        (init ! 0 refl (tt, typed .1 .1 .0)) $
         move ! (8 ∷ []) $ use1 W (raw (IsWithin 𝓤 H A mem run .pre to)) (goes (typed .1 .1 .0 .fits)) $
-        calls-at ! fm (IsWithin 𝓤 H A mem run) known to (and-then ! (load ! (from ! (stop !)) (look ! 3 refl)) (and-then ! (load ! (from ! (stop !)) (look ! 1 refl)) (no-more !))) (λ u.
-        use1 W (later (some (λ (r : Bool). ((‵ (flft κ q) ⊛ ‵ ftrue) ⊛ ‵ (Boolean .own r (u ∷ []))) ⊛ raw (ensured 𝓤 H A step.ended (step.clauses 𝓤 H A mem run) (κ, tt) (d .text, (d .pos, tt)) tt r)))) (id⊢ 𝓤 _) $ await ! tt $ pick ! (λ r.
+        calls-at ! fm (IsWithin 𝓤 H A mem run) known to
+        (and-then ! (load ! (from ! (stop !)) (look ! 3 refl)) (and-then ! (load ! (from ! (stop !)) (look ! 1 refl)) (no-more !))) (λ u.
+        use1 W (later (some (λ (r : Bool). ((‵ (flft κ q) ⊛ ‵ ftrue) ⊛ ‵ (Boolean .own r (u ∷ []))) ⊛ raw
+        (ensured 𝓤 H A step.ended (step.clauses 𝓤 H A mem run) (κ, tt) (d .text, (d .pos, tt)) tt r)))) (id⊢ 𝓤 _) $ await ! tt $ pick ! (λ r.
         split ! $ move ! (1 ∷ []) $ use1 W (raw (fact 𝓤 (r ≡ hasNext d))) (said r) $ heard ! (r ≡ hasNext d) (λ e. split ! $ move ! (1 ∷ []) $
         -- [the result; the token; _3; …; _2; …; _1; …; room for _0; …]
         peeks ! Boolean (Is Boolean) (shows 𝓤 H A Boolean) r (u ∷ []) (λ is.
         land ! (from ! (stop !)) (init ! 8 refl (bool-lawful 𝓤 H A W .typed r _ is .0)) $
         returns ! (look ! 8 refl) $ forget ! 2 refl $ forget ! 4 refl $ forget ! 6 refl $ forget ! 8 refl $
-        move ! (8 ∷ 9 ∷ []) $ free1 ! $ move ! (6 ∷ 7 ∷ []) $ free1 ! $ move ! (4 ∷ 5 ∷ []) $ free1 ! $ move ! (2 ∷ 3 ∷ []) $ free1 ! $ free0 ! $ by ! (exits r u e)))))))))
+        move ! (8 ∷ 9 ∷ []) $ free1 ! $ move ! (6 ∷ 7 ∷ []) $ free1 ! $ move ! (4 ∷ 5 ∷ []) $ free1 ! $ move ! (2 ∷ 3 ∷ []) $ free1 ! $ free0 ! $ by !
+        (exits r u e)))))))))
 
 has-next-meets : {M : Type 1} (𝓤 : URA M) (H : Heap 𝓤) (A : Atoms 𝓤) (W : Given 𝓤 H A) (mem : Memory → SProp 𝓤) (run : Routine → Fun 𝓤) (𝓣 : Tables 𝓤 H)
     → Triple 𝓤 (𝓣 .C #is-within) (IsWithin 𝓤 H A mem run)
     → Meets 𝓤 H A has-next.signature (WpFn 𝓤 H (𝓣 .C) (𝓣 .Λ) code.function) (has-next.spec 𝓤 H A mem run)
 has-next-meets 𝓤 H A W mem run 𝓣 known =
-    walk-meets 𝓤 H A has-next.ended stayed W (goes-dropped 𝓤 H A W 1 (plain Splitter) yes (λ κs x f. refl), tt) (has-next.clauses 𝓤 H A mem run) (WpFn 𝓤 H (𝓣 .C) (𝓣 .Λ) code.function) (WpFn-mono 𝓤 H (W .laws) 𝓣 code.function)
-    (walked 𝓤 H A has-next.ended stayed (has-next.clauses 𝓤 H A mem run) (WpFn 𝓤 H (𝓣 .C) (𝓣 .Λ) code.function) (λ κs. (LL.vals (Shape κs) (shaped κs), tt)) (λ κs. (LL.tells (Shape κs) (shaped κs), tt))
+    walk-meets 𝓤 H A has-next.ended stayed W (goes-dropped 𝓤 H A W 1 (plain Splitter) yes (λ κs x f. refl), tt) (has-next.clauses 𝓤 H A mem run)
+    (WpFn 𝓤 H (𝓣 .C) (𝓣 .Λ) code.function) (WpFn-mono 𝓤 H (W .laws) 𝓣 code.function)
+    (walked 𝓤 H A has-next.ended stayed (has-next.clauses 𝓤 H A mem run) (WpFn 𝓤 H (𝓣 .C) (𝓣 .Λ) code.function)
+    (λ κs. (LL.vals (Shape κs) (shaped κs), tt)) (λ κs. (LL.tells (Shape κs) (shaped κs), tt))
     (λ κs qs bounds a g are. via 𝓤 _ (fst∗ 𝓤 _ (emp 𝓤)) (walk 𝓤 H A W mem run (κs .0) (qs .0) (a .0) (𝓣 .C) (𝓣 .Λ) (fmOf 𝓤 H (W .laws) 𝓣) known (are .0))))
 
 pub has-next-spec : {M : Type 1} → stated.statement M

@@ -42,7 +42,8 @@ use Rattle.splitter.proofs.SplitByCharacterClass.position.Code as code
 abbrev stayed : Stays (position.ended .signature .params) (position.ended .kept)
 stayed = (stay-dropped (plain Splitter) yes, tt)
 
-module _ {M : Type 1} (𝓤 : URA M) (H : Heap 𝓤) (A : Atoms 𝓤) (W : Given 𝓤 H A) (mem : Memory → SProp 𝓤) (run : Routine → Fun 𝓤) (κ : Lft) (q : Share) (d : SplitByCharacterClass) where
+module _ {M : Type 1} (𝓤 : URA M) (H : Heap 𝓤) (A : Atoms 𝓤) (W : Given 𝓤 H A) (mem : Memory → SProp 𝓤) (run : Routine → Fun 𝓤) (κ : Lft) (q : Share)
+    (d : SplitByCharacterClass) where
   abbrev mach : Val
   mach = splitterOf (d .text) (d .pos)
 
@@ -55,22 +56,27 @@ module _ {M : Type 1} (𝓤 : URA M) (H : Heap 𝓤) (A : Atoms 𝓤) (W : Given
   exits : d .pos < 2 ^ 64 → ent 𝓤 Pre (Post (vint w64 (d .pos)))
   exits fits =
       qed W ((‵ (flft κ q) ⊛ ‵ ftrue) ∷ ‵ (owns (Splitter (κ, tt) ∷ []) (d, tt) (mach ∷ [], tt)) ∷ []) ∵
-      suffices ! _ (ends-at 𝓤 H A position.ended stayed (position.clauses 𝓤 H A mem run) W (((κ, tt), (q, tt), tt, (d, tt), (mach ∷ [], tt)), tt) (vint w64 (d .pos)) (d .pos) (tt, tt) (tt, tt)) $ says ! refl $
+      suffices ! _ (ends-at 𝓤 H A position.ended stayed (position.clauses 𝓤 H A mem run) W (((κ, tt), (q, tt), tt, (d, tt), (mach ∷ [], tt)), tt)
+      (vint w64 (d .pos)) (d .pos) (tt, tt) (tt, tt)) $ says ! refl $
       frame ! $ drop ! $ nothing ! $ nothing ! $ fjoin ! $ frame ! $ owned ! usize (Is usize) (uint-makes 𝓤 H A W w64) (d .pos) _ (refl, fits) $ done !
 
   module _ (C : Calls 𝓤 H) (Λ : Loops 𝓤 H) where
     walk : Is (Splitter (κ, tt)) d (mach ∷ []) → ent 𝓤 Pre (WpFn 𝓤 H C Λ code.function (mach ∷ []) Post)
     walk p =
         qed W (raw Pre ∷ []) ∵ enter ! C Λ code.function (mach ∷ []) _ $
-        alloc1 ! (λ l₀. alloc1 ! (λ l₁. alloc0 ! $ params1 ! $ pass1 ! (init ! 0 refl (LL.lawful (Shape (κ, tt)) (shaped (κ, tt)) 𝓤 H A W .typed d (mach ∷ []) p .0)) $ pass0 ! $
-        assigns ! (of-opd ! (load ! (from ! (fld ! refl (stop !))) (look-in ! 0 (sub ! 1 refl (whole !))))) (from ! (stop !)) (init ! 2 refl (tt, record { fits = p .1 .1 .1 .0 .1 })) $
+        alloc1 ! (λ l₀. alloc1 ! (λ l₁. alloc0 ! $ params1 ! $ pass1 !
+        (init ! 0 refl (LL.lawful (Shape (κ, tt)) (shaped (κ, tt)) 𝓤 H A W .typed d (mach ∷ []) p .0)) $ pass0 ! $
+        assigns ! (of-opd ! (load ! (from ! (fld ! refl (stop !))) (look-in ! 0 (sub ! 1 refl (whole !))))) (from ! (stop !))
+        (init ! 2 refl (tt, record { fits = p .1 .1 .1 .0 .1 })) $
         returns ! (look ! 2 refl) $ forget ! 0 refl $ forget ! 2 refl $ move ! (2 ∷ 3 ∷ []) $ free1 ! $ free1 ! $ free0 ! $ by ! (exits (p .1 .1 .1 .0 .1))))
 
 position-meets : {M : Type 1} (𝓤 : URA M) (H : Heap 𝓤) (A : Atoms 𝓤) → Given 𝓤 H A → (mem : Memory → SProp 𝓤) (run : Routine → Fun 𝓤) (𝓣 : Tables 𝓤 H)
     → Meets 𝓤 H A position.signature (WpFn 𝓤 H (𝓣 .C) (𝓣 .Λ) code.function) (position.spec 𝓤 H A mem run)
 position-meets 𝓤 H A W mem run 𝓣 =
-    walk-meets 𝓤 H A position.ended stayed W (goes-dropped 𝓤 H A W 1 (plain Splitter) yes (λ κs x f. refl), tt) (position.clauses 𝓤 H A mem run) (WpFn 𝓤 H (𝓣 .C) (𝓣 .Λ) code.function) (WpFn-mono 𝓤 H (W .laws) 𝓣 code.function)
-    (walked 𝓤 H A position.ended stayed (position.clauses 𝓤 H A mem run) (WpFn 𝓤 H (𝓣 .C) (𝓣 .Λ) code.function) (λ κs. (LL.vals (Shape κs) (shaped κs), tt)) (λ κs. (LL.tells (Shape κs) (shaped κs), tt))
+    walk-meets 𝓤 H A position.ended stayed W (goes-dropped 𝓤 H A W 1 (plain Splitter) yes (λ κs x f. refl), tt) (position.clauses 𝓤 H A mem run)
+    (WpFn 𝓤 H (𝓣 .C) (𝓣 .Λ) code.function) (WpFn-mono 𝓤 H (W .laws) 𝓣 code.function)
+    (walked 𝓤 H A position.ended stayed (position.clauses 𝓤 H A mem run) (WpFn 𝓤 H (𝓣 .C) (𝓣 .Λ) code.function)
+    (λ κs. (LL.vals (Shape κs) (shaped κs), tt)) (λ κs. (LL.tells (Shape κs) (shaped κs), tt))
     (λ κs qs bounds a g are. via 𝓤 _ (fst∗ 𝓤 _ (emp 𝓤)) (walk 𝓤 H A W mem run (κs .0) (qs .0) (a .0) (𝓣 .C) (𝓣 .Λ) (are .0))))
 
 pub position-spec : {M : Type 1} → stated.statement M

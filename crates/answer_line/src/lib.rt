@@ -1,0 +1,136 @@
+//! What the program `cutlines` answers to a line (document 01, "Program `cutlines`"): a line of bytes in, a line of bytes out, with
+//! the book lent between.
+//!
+//! A frame asks for one of the public calls. The book serves one line after the other.
+ghost use mathlib.Core.Path.{_≡_};
+ghost use Prim.Native.Nat.{_+_, _≤_};
+ghost use lib.ListN.{length};
+ghost use Rattle.trie.specs.Lent.{was, became};
+ghost use Rattle.book.specs.Areas.{bookLent, bookLeft};
+ghost use Rattle.printing.specs.Answers.{Put};
+ghost use Rattle.answers.specs.Answers.{longestAnswer, answerBy, answerOf, Answered};
+use answers::Answer;
+use book::Head;
+use cuts::TokenizeMode;
+use frames::Kind;
+
+// Answers a frame that leaves the book as it is, and what is no frame.
+fn put_answer(
+    head: Head,
+    root_children: &[u32],
+    root_words: &[i32],
+    keys: &[u64],
+    children: &[u32],
+    words: &[i32],
+    frequencies: &[u32],
+    logarithms: &[f64],
+    kind: Kind,
+    text: &[u8],
+    out: &mut [u8],
+    at: usize,
+) -> usize
+    requires { ⌜ (at + longestAnswer ≤ length (now out)) × (kind ≡ Kind.Load → ⊥) ⌝ }
+    ensures { λ r. ⌜ Put (was out) at (answerBy kind (bookLent head «root_children» «root_words» keys children words frequencies logarithms)
+        (was text) .line) (became out) r ⌝ }
+    ensures { λ r. ⌜ r ≤ at + longestAnswer ⌝ }
+{
+    match kind {
+        Kind::Cut => answers::put_tokenize(
+            head,
+            root_children,
+            root_words,
+            keys,
+            children,
+            words,
+            frequencies,
+            logarithms,
+            text,
+            TokenizeMode::Default,
+            out,
+            at,
+        ),
+        Kind::CutAll => answers::put_cut_all(
+            head,
+            root_children,
+            root_words,
+            keys,
+            children,
+            words,
+            frequencies,
+            logarithms,
+            text,
+            out,
+            at,
+        ),
+        Kind::CutForSearch => answers::put_tokenize(
+            head,
+            root_children,
+            root_words,
+            keys,
+            children,
+            words,
+            frequencies,
+            logarithms,
+            text,
+            TokenizeMode::Search,
+            out,
+            at,
+        ),
+        _ => printing::put_no_frame(out, at),
+    }
+}
+
+// Answers a line without its end: writes the answer from a place on.
+pub fn answer_line(
+    head: Head,
+    root_children: &mut [u32],
+    root_words: &mut [i32],
+    keys: &mut [u64],
+    children: &mut [u32],
+    words: &mut [i32],
+    frequencies: &mut [u32],
+    logarithms: &mut [f64],
+    line: &[u8],
+    out: &mut [u8],
+    at: usize,
+) -> Answer
+    requires { ⌜ at + longestAnswer ≤ length (now out) ⌝ }
+    ensures { λ r. ⌜ Answered (answerOf (bookLent head «root_children» «root_words» keys children words frequencies logarithms) (was line))
+        (was out) at (became out) (r .end) (bookLeft (r .head) «root_children» «root_words» keys children words frequencies logarithms) ⌝ }
+    ensures { λ r. ⌜ r .end ≤ at + longestAnswer ⌝ }
+{
+    let mut bytes = [0u8; frames::LONGEST];
+    let frame = frames::read_frame(line, &mut bytes);
+    let kind = frame.kind;
+    let end = 1 + frame.text;
+    if let Kind::Load = kind {
+        return answers::put_load(
+            head,
+            root_children,
+            root_words,
+            keys,
+            children,
+            words,
+            frequencies,
+            logarithms,
+            &bytes[1..end],
+            out,
+            at,
+        );
+    }
+    let end = put_answer(
+        head,
+        root_children,
+        root_words,
+        keys,
+        children,
+        words,
+        frequencies,
+        logarithms,
+        kind,
+        &bytes[1..end],
+        out,
+        at,
+    );
+    Answer { head, end }
+}

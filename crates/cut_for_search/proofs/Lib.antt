@@ -1,0 +1,2 @@
+-- What is proved of `cut_for_search`.
+pub mod Modes

@@ -1,0 +1,2 @@
+-- The definitions that the contracts of `cut_sentence` and of the calls over it cite.
+pub mod Areas

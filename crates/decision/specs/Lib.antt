@@ -1,0 +1,2 @@
+-- The definitions that the contracts of `decision` cite.
+pub mod Texts

@@ -1,0 +1,2 @@
+-- The definitions that the contracts of `load_lines` cite beside those of `book`.
+pub mod Answers

@@ -1,0 +1,3 @@
+-- The laws by which the functions of `printing` meet their contracts.
+pub mod Digits
+pub mod Lines

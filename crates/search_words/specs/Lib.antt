@@ -1,0 +1,2 @@
+-- The definitions that the contracts of `search_words` cite.
+pub mod Rising

@@ -1,0 +1,2 @@
+-- The definition that the contracts of `unmatched` cite.
+pub mod Joining
