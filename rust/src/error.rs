@@ -103,6 +103,20 @@ impl fmt::Display for Stopped<'_, '_> {
     }
 }
 
+/// What is left of a load's error without its line.
+impl From<LoadError> for Error {
+    fn from(refused: LoadError) -> Error {
+        refused.error
+    }
+}
+
+/// What is left of a stopped cut without its tokens, which borrow: so `?` takes it out of any function.
+impl From<Stopped<'_, '_>> for Error {
+    fn from(stopped: Stopped<'_, '_>) -> Error {
+        stopped.error
+    }
+}
+
 impl std::error::Error for Error {}
 impl std::error::Error for LoadError {}
 impl std::error::Error for Stopped<'_, '_> {}

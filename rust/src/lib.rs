@@ -6,10 +6,12 @@
 //! ```
 //! use tongsvale::{Dictionary, Scratch};
 //!
-//! let mut dictionary = Dictionary::with_sizes(65_536, 16, 4)?;
-//! dictionary.load("打开 256\n客厅灯 64\n".as_bytes()).unwrap();
-//! let mut scratch = Scratch::with_sizes(32, 32, 32);
-//! let words: Vec<&str> = dictionary.cut("打开客厅灯", &mut scratch).unwrap().map(|token| token.word).collect();
+//! let vocabulary = "打开 256\n客厅灯 64\n";
+//! let mut dictionary = Dictionary::for_text(vocabulary)?;
+//! dictionary.load(vocabulary)?;
+//! let sentence = "打开客厅灯";
+//! let mut scratch = Scratch::for_sentence(sentence);
+//! let words: Vec<&str> = dictionary.cut(sentence, &mut scratch)?.map(|token| token.word).collect();
 //! assert_eq!(words, ["打开", "客厅灯"]);
 //! # Ok::<(), tongsvale::Error>(())
 //! ```
@@ -17,9 +19,11 @@
 
 mod calls;
 mod error;
+mod sizes;
 mod tokens;
 
 pub use error::{Error, LoadError, Stopped};
+pub use sizes::Sizes;
 pub use tokens::{Token, Tokens};
 
 /// The longest text that is read, in bytes.
@@ -112,6 +116,13 @@ impl Dictionary {
         Ok(dictionary)
     }
 
+    /// An empty dictionary that has room for the words of a dictionary text, whatever the text is: [`Sizes::for_text`]. A text
+    /// that needs more than the limits is then refused where it is loaded.
+    pub fn for_text(text: impl AsRef<[u8]>) -> Result<Dictionary, Error> {
+        let Sizes { roots, slots, records } = Sizes::for_text(text);
+        Dictionary::with_sizes(roots, slots, records)
+    }
+
     /// A dictionary of these areas as they are. Each call tests what it reads of them.
     pub fn from_areas(areas: Areas) -> Dictionary {
         Dictionary { areas }
@@ -133,8 +144,8 @@ impl Dictionary {
     }
 
     /// Loads a dictionary text, and returns its number of lines. A refused line ends the load; the lines before it stay.
-    pub fn load(&mut self, text: &[u8]) -> Result<usize, LoadError> {
-        let loaded = calls::load(&mut self.areas, text);
+    pub fn load(&mut self, text: impl AsRef<[u8]>) -> Result<usize, LoadError> {
+        let loaded = calls::load(&mut self.areas, text.as_ref());
         match error::result_of(loaded.number) {
             Ok(()) => Ok(loaded.line),
             Err(error) => Err(LoadError { error, line: loaded.line }),
@@ -142,90 +153,89 @@ impl Dictionary {
     }
 
     /// Adds a word or gives a held word the new frequency, which is returned. For the empty word, which is not held, that is 0.
-    pub fn add_word(&mut self, word: &[u8], frequency: u64) -> Result<u64, Error> {
-        let added = calls::add(&mut self.areas, word, frequency);
+    pub fn add_word(&mut self, word: impl AsRef<[u8]>, frequency: u64) -> Result<u64, Error> {
+        let added = calls::add(&mut self.areas, word.as_ref(), frequency);
         error::result_of(added.number).map(|()| added.frequency)
     }
 
     /// The frequency of a word, or `None` where it is absent.
-    pub fn lookup(&self, word: &[u8]) -> Result<Option<u32>, Error> {
-        let found = calls::lookup(&self.areas, word);
+    pub fn lookup(&self, word: impl AsRef<[u8]>) -> Result<Option<u32>, Error> {
+        let found = calls::lookup(&self.areas, word.as_ref());
         error::result_of(found.number).map(|()| (found.held == 1).then_some(found.frequency))
     }
 
     /// Cuts a sentence into words.
-    pub fn cut<'s, 't>(&self, sentence: &'s str, scratch: &'t mut Scratch) -> Result<Tokens<'s, 't>, Stopped<'s, 't>> {
-        let cut = calls::cut(&self.areas, sentence.as_bytes(), scratch);
-        tokens::tokens_of(cut, sentence, &scratch.tokens)
+    ///
+    /// A sentence may be anything that has bytes; one that is malformed is refused.
+    pub fn cut<'s, 't>(
+        &self,
+        sentence: &'s (impl AsRef<[u8]> + ?Sized),
+        scratch: &'t mut Scratch,
+    ) -> Result<Tokens<'s, 't>, Stopped<'s, 't>> {
+        let sentence = sentence.as_ref();
+        tokens::tokens_of(calls::cut(&self.areas, sentence, scratch), sentence, &scratch.tokens)
     }
 
     /// Cuts a sentence into words, before each of them what search finds in it: its parts between `.`, `_` and `-`, and the held
     /// words of two and of three characters in it.
     pub fn cut_for_search<'s, 't>(
         &self,
-        sentence: &'s str,
+        sentence: &'s (impl AsRef<[u8]> + ?Sized),
         scratch: &'t mut Scratch,
     ) -> Result<Tokens<'s, 't>, Stopped<'s, 't>> {
-        let cut = calls::cut_for_search(&self.areas, sentence.as_bytes(), scratch);
-        tokens::tokens_of(cut, sentence, &scratch.tokens)
+        let sentence = sentence.as_ref();
+        tokens::tokens_of(calls::cut_for_search(&self.areas, sentence, scratch), sentence, &scratch.tokens)
     }
 
     /// Cuts a sentence into words by a mode.
     pub fn tokenize<'s, 't>(
         &self,
-        sentence: &'s str,
+        sentence: &'s (impl AsRef<[u8]> + ?Sized),
         mode: TokenizeMode,
         scratch: &'t mut Scratch,
     ) -> Result<Tokens<'s, 't>, Stopped<'s, 't>> {
-        let cut = calls::tokenize(&self.areas, sentence.as_bytes(), mode as u32, scratch);
-        tokens::tokens_of(cut, sentence, &scratch.tokens)
+        let sentence = sentence.as_ref();
+        tokens::tokens_of(calls::tokenize(&self.areas, sentence, mode as u32, scratch), sentence, &scratch.tokens)
     }
 
     /// Cuts a sentence into all the words that it holds.
-    pub fn cut_all<'s, 't>(&self, sentence: &'s str, scratch: &'t mut Scratch) -> Result<Tokens<'s, 't>, Stopped<'s, 't>> {
-        let cut = calls::cut_all(&self.areas, sentence.as_bytes(), scratch);
-        tokens::tokens_of(cut, sentence, &scratch.tokens)
-    }
-
-    /// As [`Dictionary::cut`], of bytes that may be malformed.
-    pub fn cut_bytes<'s, 't>(&self, sentence: &'s [u8], scratch: &'t mut Scratch) -> Result<Tokens<'s, 't>, Stopped<'s, 't>> {
-        let cut = calls::cut(&self.areas, sentence, scratch);
-        tokens::tokens_of_bytes(cut, sentence, &scratch.tokens)
-    }
-
-    /// As [`Dictionary::cut_for_search`], of bytes that may be malformed.
-    pub fn cut_for_search_bytes<'s, 't>(
+    pub fn cut_all<'s, 't>(
         &self,
-        sentence: &'s [u8],
+        sentence: &'s (impl AsRef<[u8]> + ?Sized),
         scratch: &'t mut Scratch,
     ) -> Result<Tokens<'s, 't>, Stopped<'s, 't>> {
-        let cut = calls::cut_for_search(&self.areas, sentence, scratch);
-        tokens::tokens_of_bytes(cut, sentence, &scratch.tokens)
-    }
-
-    /// As [`Dictionary::tokenize`], of bytes that may be malformed.
-    pub fn tokenize_bytes<'s, 't>(
-        &self,
-        sentence: &'s [u8],
-        mode: TokenizeMode,
-        scratch: &'t mut Scratch,
-    ) -> Result<Tokens<'s, 't>, Stopped<'s, 't>> {
-        let cut = calls::tokenize(&self.areas, sentence, mode as u32, scratch);
-        tokens::tokens_of_bytes(cut, sentence, &scratch.tokens)
-    }
-
-    /// As [`Dictionary::cut_all`], of bytes that may be malformed.
-    pub fn cut_all_bytes<'s, 't>(
-        &self,
-        sentence: &'s [u8],
-        scratch: &'t mut Scratch,
-    ) -> Result<Tokens<'s, 't>, Stopped<'s, 't>> {
-        let cut = calls::cut_all(&self.areas, sentence, scratch);
-        tokens::tokens_of_bytes(cut, sentence, &scratch.tokens)
+        let sentence = sentence.as_ref();
+        tokens::tokens_of(calls::cut_all(&self.areas, sentence, scratch), sentence, &scratch.tokens)
     }
 }
 
 impl Scratch {
+    /// Areas for a sentence, each with places for what a sentence of its characters mostly takes: for the work as many as it
+    /// needs, for edges and tokens eight a character. A book with many words that begin alike may want more, and a cut then
+    /// stops with [`Error::EdgesFull`] or [`Error::TokensFull`]: [`Scratch::grow`].
+    pub fn for_sentence(sentence: impl AsRef<[u8]>) -> Scratch {
+        let characters = sizes::characters(sentence.as_ref());
+        let places = characters.saturating_mul(8).max(8);
+        Scratch::with_sizes(characters + 1, places, places)
+    }
+
+    /// Twice as many places where a cut found too few. Answers whether the areas grew: other errors ask for something else.
+    pub fn grow(&mut self, error: Error) -> bool {
+        match error {
+            Error::EdgesFull => {
+                let places = (self.edge_ends.len().min(self.edge_records.len()) * 2).max(8);
+                self.edge_ends.resize(places, 0);
+                self.edge_records.resize(places, 0);
+            }
+            Error::TokensFull => {
+                let numbers = (self.tokens.len() * 2).max(8 * TOKEN_WIDTH);
+                self.tokens.resize(numbers, 0);
+            }
+            _ => return false,
+        }
+        true
+    }
+
     /// Areas of so many places. A sentence needs its characters + 1 of work; a block a place of edges for each held word at each
     /// place where it starts. Of tokens, as many places as characters suffice for `cut`, and 7 thirds of the characters, rounded
     /// down, for `cut_for_search`. `cut_all` needs a place for each held word at each place of a Han block where it starts, and

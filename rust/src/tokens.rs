@@ -2,6 +2,7 @@ use crate::calls::Cut;
 use crate::error::{self, Stopped};
 use crate::TOKEN_WIDTH;
 use std::slice::ChunksExact;
+use std::str;
 
 /// A word of a sentence. Character offsets count scalar values.
 #[derive(Clone, Copy, Debug, PartialEq, Eq)]
@@ -17,7 +18,7 @@ pub struct Token<'s> {
 /// The tokens of a cut, in its order. They borrow the sentence, and the iterator borrows the token area.
 #[derive(Clone, Debug)]
 pub struct Tokens<'s, 't> {
-    sentence: &'s str,
+    sentence: &'s [u8],
     numbers: ChunksExact<'t, u32>,
 }
 
@@ -30,7 +31,7 @@ impl<'s> Iterator for Tokens<'s, '_> {
         };
         let (byte_start, byte_end) = (byte_start as usize, byte_end as usize);
         Some(Token {
-            word: &self.sentence[byte_start..byte_end],
+            word: str::from_utf8(&self.sentence[byte_start..byte_end]).expect("a sentence that was cut is well formed"),
             start: start as usize,
             end: end as usize,
             byte_start,
@@ -46,23 +47,10 @@ impl<'s> Iterator for Tokens<'s, '_> {
 impl ExactSizeIterator for Tokens<'_, '_> {}
 
 /// What a cut of a sentence returned.
-pub(crate) fn tokens_of<'s, 't>(cut: Cut, sentence: &'s str, area: &'t [u32]) -> Result<Tokens<'s, 't>, Stopped<'s, 't>> {
+pub(crate) fn tokens_of<'s, 't>(cut: Cut, sentence: &'s [u8], area: &'t [u32]) -> Result<Tokens<'s, 't>, Stopped<'s, 't>> {
     let tokens = Tokens { sentence, numbers: area[..cut.count * TOKEN_WIDTH].chunks_exact(TOKEN_WIDTH) };
     match error::result_of(cut.number) {
         Ok(()) => Ok(tokens),
         Err(error) => Err(Stopped { error, tokens }),
     }
-}
-
-/// What a cut of bytes returned. A cut that wrote a token has found them well formed; without one nothing is read of them.
-pub(crate) fn tokens_of_bytes<'s, 't>(
-    cut: Cut,
-    sentence: &'s [u8],
-    area: &'t [u32],
-) -> Result<Tokens<'s, 't>, Stopped<'s, 't>> {
-    let sentence = match cut.count {
-        0 => "",
-        _ => std::str::from_utf8(sentence).expect("a sentence that was cut is well formed"),
-    };
-    tokens_of(cut, sentence, area)
 }

@@ -10,7 +10,7 @@ const NO_KEY: u64 = u64::MAX;
 #[track_caller]
 fn damaged_for_all(dictionary: &mut Dictionary, word: &str, what: &str) {
     let word = word.as_bytes();
-    assert_eq!(unchanged(dictionary, |d| d.load(&[b"\n\n", word, b" 1"].concat())), at_line(3, Error::Damaged), "load, {what}");
+    assert_eq!(unchanged(dictionary, |d| d.load([b"\n\n", word, b" 1"].concat())), at_line(3, Error::Damaged), "load, {what}");
     assert_eq!(unchanged(dictionary, |d| d.add_word(word, 1)), Err(Error::Damaged), "add, {what}");
     assert_eq!(dictionary.lookup(word), Err(Error::Damaged), "lookup, {what}");
     for (name, cut) in CUTS {

@@ -78,13 +78,12 @@ fn tokens_have_both_kinds_of_offsets() {
     let expected = expected.map(|(word, start, end, byte_start, byte_end)| Token { word, start, end, byte_start, byte_end });
     assert!(tokens.eq(expected));
     // Bytes give the same.
-    assert!(dictionary.cut_bytes("é!打开灯".as_bytes(), &mut scratch).unwrap().eq(expected));
+    assert!(dictionary.cut("é!打开灯".as_bytes(), &mut scratch).unwrap().eq(expected));
     let searched = dictionary.cut_for_search("é!客厅灯", &mut scratch).unwrap();
     let searched: Vec<_> = searched.map(|t| (t.word, t.start, t.end, t.byte_start, t.byte_end)).collect();
     let expected = [("é", 0, 1, 0, 2), ("!", 1, 2, 2, 3), ("客厅", 2, 4, 3, 9), ("厅灯", 3, 5, 6, 12), ("客厅灯", 2, 5, 3, 12)];
     assert_eq!(searched, expected);
-    let all =
-        dictionary.cut_all_bytes("é打开".as_bytes(), &mut scratch).unwrap().map(|t| (t.start, t.end, t.byte_start, t.byte_end));
+    let all = dictionary.cut_all("é打开".as_bytes(), &mut scratch).unwrap().map(|t| (t.start, t.end, t.byte_start, t.byte_end));
     assert!(all.eq([(0, 1, 0, 2), (1, 2, 2, 5), (1, 3, 2, 8), (2, 3, 5, 8)]));
 }
 
@@ -98,7 +97,7 @@ fn the_frame_of_cutlines() {
 fn sixteen_slots_take_twelve() {
     let mut dictionary = Dictionary::with_sizes(1, 16, 16).unwrap();
     for (taken, letter) in (b'a'..=b'l').enumerate() {
-        assert_eq!(dictionary.add_word(&[letter], 1), Ok(1), "slot {}", taken + 1);
+        assert_eq!(dictionary.add_word([letter], 1), Ok(1), "slot {}", taken + 1);
     }
     assert_eq!(dictionary.areas().head, [12, 12, 13, 12]);
     assert_eq!(unchanged(&mut dictionary, |d| d.add_word(b"m", 1)), Err(Error::SlotsFull));

@@ -14,11 +14,11 @@ fn longest_sentence() -> String {
 #[test]
 fn a_text_is_16_777_215_bytes_at_most() {
     let mut dictionary = book_a();
-    assert_eq!(unchanged(&mut dictionary, |d| d.load(&vec![b'\n'; 16_777_215])), Ok(16_777_215));
-    assert_eq!(unchanged(&mut dictionary, |d| d.load(&vec![b'\n'; 16_777_216])), at_line(0, Error::TooLong));
+    assert_eq!(unchanged(&mut dictionary, |d| d.load(vec![b'\n'; 16_777_215])), Ok(16_777_215));
+    assert_eq!(unchanged(&mut dictionary, |d| d.load(vec![b'\n'; 16_777_216])), at_line(0, Error::TooLong));
     // 2 comes before 3; up to the limit the bytes are read.
-    assert_eq!(unchanged(&mut dictionary, |d| d.load(&vec![0xff; 16_777_216])), at_line(0, Error::TooLong));
-    assert_eq!(unchanged(&mut dictionary, |d| d.load(&vec![0xff; 16_777_215])), at_line(1, Error::Malformed));
+    assert_eq!(unchanged(&mut dictionary, |d| d.load(vec![0xff; 16_777_216])), at_line(0, Error::TooLong));
+    assert_eq!(unchanged(&mut dictionary, |d| d.load(vec![0xff; 16_777_215])), at_line(1, Error::Malformed));
 }
 
 #[test]

@@ -79,11 +79,11 @@ pub type CutBytes = for<'s, 't> fn(&Dictionary, &'s [u8], &'t mut Scratch) -> Re
 
 /// Every call that cuts, `tokenize` in both modes.
 pub const CUTS: [(&str, CutBytes); 5] = [
-    ("cut", Dictionary::cut_bytes),
-    ("cut_for_search", Dictionary::cut_for_search_bytes),
-    ("tokenize by default", |d, sentence, scratch| d.tokenize_bytes(sentence, TokenizeMode::Default, scratch)),
-    ("tokenize for search", |d, sentence, scratch| d.tokenize_bytes(sentence, TokenizeMode::Search, scratch)),
-    ("cut_all", Dictionary::cut_all_bytes),
+    ("cut", |d, sentence, scratch| d.cut(sentence, scratch)),
+    ("cut_for_search", |d, sentence, scratch| d.cut_for_search(sentence, scratch)),
+    ("tokenize by default", |d, sentence, scratch| d.tokenize(sentence, TokenizeMode::Default, scratch)),
+    ("tokenize for search", |d, sentence, scratch| d.tokenize(sentence, TokenizeMode::Search, scratch)),
+    ("cut_all", |d, sentence, scratch| d.cut_all(sentence, scratch)),
 ];
 
 /// The number of all cuts of a sentence, that are refused before they begin: no token, and every area unchanged.
