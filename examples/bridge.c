@@ -31,8 +31,8 @@ static const struct device *find_device(const char *word, size_t length) {
     return NULL;
 }
 
-/* Prepares and loads the book. A device is of use only if its name is one word for the cut, which it is not where a line was
- * forgotten or a character stands in it at which sentences are parted. So each name is cut once before the first guest comes. */
+/* Prepares and loads the book. Only a name that is one word for the cut can be found, and so be refused. It is not one where its
+ * line was forgotten, or where it has a character at which sentences are parted; so each name is cut before a guest comes. */
 static int start(void) {
     if (tongsvale_book_prepare(&book) != TONGSVALE_DONE)
         return 1;

@@ -3,52 +3,53 @@
  *
  * In short
  *
- *     TONGSVALE_STATIC_BOOK(book, 1, TONGSVALE_SLOTS(8), 3);    // 3 words of 8 characters together
- *     TONGSVALE_STATIC_WORK(work, 100, 300, 100);               // sentences of 100 characters, 300 edges, 100 tokens
+ *     TONGSVALE_STATIC_BOOK(book, 1, TONGSVALE_SLOTS(8), 3);    // room for 3 words of 8 characters together
+ *     TONGSVALE_STATIC_WORK(work, 100, TONGSVALE_EDGES(100, 3), TONGSVALE_CUT_PLACES(100));    // sentences of 100 characters
  *     tongsvale_book_prepare(&book);
  *     tongsvale_book_load(&book, text, text_length);            // lines of a word and its frequency
  *     struct tongsvale_cut_result cut = tongsvale_book_cut(&book, sentence, sentence_length, &work);
  *     for (size_t i = 0; i < cut.count; i++) .. tongsvale_token_at(&work, i) ..
- * with cut.number and the number that each other call returns tested: 0 is done. examples/cut.c is this as a whole program,
- * examples/bridge.c compares the words with what a guest may switch. All text is UTF-8, and lengths of text are in bytes.
+ *
+ * Each call returns a number, which is to be tested: 0 is done. All text is UTF-8, and its lengths are in bytes.
+ * examples/cut.c is a whole program; examples/bridge.c compares the words with what a guest may switch.
  *
  * What the caller lends
  *
  * The caller owns all memory. The library allocates nothing, keeps no pointer after it returns, has no state of its own, and
  * calls nothing but the C library's memset. It cannot test the following, and its proofs take it from the caller:
- *   - a pointer is not null and is aligned for its type, also where its length is 0 (the wrappers below take a text of length 0
- *     at any pointer);
+ *   - a pointer is not null and is aligned for its type, also where its length is 0 (only a text of length 0 may be at any
+ *     pointer, null too, in the wrappers below);
  *   - it is valid for its length: every element may be read, and has been given some value;
  *   - an area that is written overlaps no other of the same call, and nothing else reads or writes it until the call returns;
  *     what is only read may overlap;
  *   - the processor's floating-point mode is that of a new program: round to nearest, no flush to zero.
  * Nothing else is asked. Lengths and contents of every kind, damaged books with them, are answered by a number.
  *
- * Threads: lookups and cuts only read the book, so several threads may cut with one book at once, each with a work area of its
- * own, while none prepares, loads or adds.
+ * Threads: lookups and cuts only read the book, so several threads may cut with one book at once, each with a work area of
+ * its own, while none prepares, loads or adds.
  *
  * Stack: a call took at most 1,000 bytes below the caller's frame, its arguments with them (load 1,000, add 904, the cuts 888,
- * lookup 520, cut_all 472, prepare 152); keep 2,048 free. This is measured on one build with gcc -O2 and not proved. Nothing in
- * the library calls itself, so the stack does not grow with the input.
+ * lookup 520, cut_all 472, prepare 152); keep 2,048 free. This was measured on one build, with a caller compiled by gcc
+ * -O2 (by -O0 it was 1,160), and is not proved. Nothing in the library calls itself, so it does not grow with the input.
  *
- * Time: at each character of a sentence a cut follows the longest beginning of a stored word that stands there, with a probe for
- * each character of it: a few slots as a rule, all the taken ones at worst. So its time is at most the sentence's characters
- * times that length; short words keep it linear, and very long words make long sentences slow that repeat their beginnings.
+ * Time: at each character of a sentence a cut follows the longest beginning of a stored word that stands there, with a probe
+ * for each character of it: a few slots as a rule, all of them at worst. So it takes up to the sentence's characters times
+ * that length in probes. Short words keep it linear; a book with very long words makes long sentences slow.
  *
  * Words
  *
- *   - A word that a cut finds has only Han characters, ASCII letters and digits, and + # & . _ % - in it; one that cut_all finds
- *     has only Han. Han is U+4E00..9FFF, 3400..4DBF, F900..FAFF, 20000..2A6DF, 2A700..2EBEF and 2F800..2FA1F. A word with any
- *     other character, as a space, a full-width letter, a middle dot or the zero U+3007, is loaded and looked up like the others,
- *     but a cut never finds it: the sentence is parted at such characters, and each of them is a token.
+ *   - A word that a cut finds has only Han characters, ASCII letters and digits, and + # & . _ % - in it; one that cut_all
+ *     finds has only Han. Han is U+4E00..9FFF, 3400..4DBF, F900..FAFF, 20000..2A6DF, 2A700..2EBEF and 2F800..2FA1F. A word
+ *     with any other character, as a space, a full-width letter, a middle dot or the zero U+3007, is loaded and looked up like
+ *     others, but a cut never finds it: the sentence is parted there first.
  *   - A cut also answers what is no word of the book: a character at which no word begins stands alone, and ASCII letters and
  *     digits that stand alone join with those beside them. So a word of one letter or digit may come joined, as 5 in 55.
  *   - Nothing is folded: upper and lower case, full width and compatibility forms are different characters.
  *   - A byte-order mark (U+FEFF) is no white space. It becomes part of the first word, which no cut then finds: strip it.
- *   - A line without a frequency gives its word the frequency 0. Where the total is 0 the shortest word wins at each place, so
- *     give frequencies; all 1 will do, and then the fewest steps win.
- *   - Frequency 0 does not remove a word: it is held, and a cut answers it where no better way leads past it. No call removes a
- *     word; prepare the book again and load the others.
+ *   - A line without a frequency gives its word the frequency 0. Where the total is 0 the shortest word wins at each place,
+ *     so give frequencies. All 1 will do; then the fewest steps win, a step being a word or a character alone.
+ *   - Frequency 0 does not remove a word: it is held, and a cut answers it where no better way leads past it. No call removes
+ *     a word; prepare the book again and load the others.
  *
  * A book
  *
@@ -56,19 +57,20 @@
  *   root table     root_children, root_words: 1 to 65,536 entries
  *   slots          keys, children, words: a power of two from 16 to 4,194,304
  *   records        frequencies, logarithms: 1 to 1,048,576
- * tongsvale_prepare makes it empty; whoever changes the areas by hand afterwards may damage it.
+ * The areas of one part are equally long. tongsvale_prepare makes a book empty; whoever changes its areas by hand afterwards
+ * may damage it.
  *
- * What a vocabulary needs: each word takes one record. Each character of a word takes a slot, unless an earlier word begins with
- * the same characters up to it; and a first character below the root table's length takes none. Slots are filled to six eighths:
- * TONGSVALE_SLOTS. After a load the head says how many were used.
+ * What a vocabulary needs: each word takes one record. Each character of a word takes a slot, unless another word that is held
+ * begins with the same characters up to it; and a first character below the root table's length takes none. Slots are filled
+ * to six eighths (TONGSVALE_SLOTS). The head says how many records and slots were used.
  *
- * The root table serves first characters by their code point, without a probe. One entry is enough, and smallest. Up to 19,968
- * entries serve no character of the main Han block (U+4E00..9FFF), 40,960 serve all of it, 65,536 all of the Basic Multilingual
- * Plane.
+ * The root table serves first characters by their code point, without a probe. One entry is enough, and takes least memory. Up
+ * to 19,968 entries serve no character of the main Han block (U+4E00..9FFF), 40,960 serve all of it, and 65,536 the whole
+ * Basic Multilingual Plane.
  *
- * A book holds no pointers. Its areas may be kept as bytes and lent again elsewhere, with the same lengths, on the same kind of
- * machine. The library knows no checksum: bytes that changed meanwhile are met as 8, or as other words, and never do harm to
- * memory; who must know keeps a checksum. A book in read-only memory can be looked up and cut with; cast its const away.
+ * A book holds no pointers. Its areas may be kept as bytes and lent again, with the same lengths, on the same kind of machine.
+ * Bytes that changed meanwhile do no harm to memory, but they are met as 8 or taken for other words, so keep a checksum beside
+ * them. A book in read-only memory can be looked up and cut with: cast its const away.
  */
 #ifndef TONGSVALE_H
 #define TONGSVALE_H
@@ -105,7 +107,7 @@ extern "C" {
 /* The numbers of a token: start and end in characters, then start and end in bytes. */
 #define TONGSVALE_TOKEN_WIDTH 4
 
-/* ---- sizes; all are constant where their arguments are */
+/* ---- sizes: constant where their arguments are; an argument may be evaluated more than once */
 
 /* The slots of a book in which so many are to be taken, at most 3,145,728; 0, which no call accepts, where they are more. */
 #define TONGSVALE_SLOTS(taken) \
@@ -115,13 +117,13 @@ extern "C" {
     (taken) <= 49152 ? 65536 : (taken) <= 98304 ? 131072 : (taken) <= 196608 ? 262144 : (taken) <= 393216 ? 524288 : \
     (taken) <= 786432 ? 1048576 : (taken) <= 1572864 ? 2097152 : (taken) <= 3145728 ? 4194304 : 0))
 
-/* Edges: a place for each word that starts anywhere in a block (a stretch without other characters than those above), for the
- * block that has the most. This many always suffice, where at most `nested` words begin with one another: 客, 客厅 and 客厅灯
- * are 3. The characters of the longest word are never fewer. */
+/* Edge places that always suffice, where at most `nested` held words start at one place: 客, 客厅 and 客厅灯 are 3. The
+ * characters of the longest word will always do for it. Needed is a place for each held word at each place where it starts in a
+ * block, for the block that has the most; a block is a stretch of characters that words can have. */
 #define TONGSVALE_EDGES(characters, nested) ((size_t)(characters) * (size_t)(nested))
 
-/* Token places that always suffice, for cut, for search (7 thirds, rounded down) and for cut_all (a place for each word at each
- * place of the sentence where it starts, and for each token outside Han; `nested` as above, and at least 1). */
+/* Token places that always suffice: for cut, for search (7 thirds, rounded down), and for cut_all, which needs one for each
+ * held word at each place where it starts and one for each token outside Han (`nested` as above, and at least 1). */
 #define TONGSVALE_CUT_PLACES(characters) ((size_t)(characters))
 #define TONGSVALE_SEARCH_PLACES(characters) ((size_t)(characters) * 7 / 3)
 #define TONGSVALE_CUT_ALL_PLACES(characters, nested) ((size_t)(characters) * (size_t)(nested))
@@ -129,7 +131,8 @@ extern "C" {
 /* Bytes of a book: the head, 8 an entry of the root table, 16 a slot, 12 a record. */
 #define TONGSVALE_BOOK_BYTES(roots, slots, records) \
     (32 + (size_t)(roots) * 8 + (size_t)(slots) * 16 + (size_t)(records) * 12)
-/* Bytes of the work area for so many characters, of so many edges, of so many tokens. cut_all takes 8 bytes of the first 32. */
+/* Bytes of the work area of so many characters, of so many edge places, and of so many token places. cut_all needs only 8 of
+ * each 32 bytes of the first, and no edge area. */
 #define TONGSVALE_WORK_BYTES(characters) (((size_t)(characters) + 1) * 32)
 #define TONGSVALE_EDGE_BYTES(edges) ((size_t)(edges) * 8)
 #define TONGSVALE_TOKEN_BYTES(places) ((size_t)(places) * 16)
@@ -211,7 +214,7 @@ struct tongsvale_token {
 
 /* ---- what is lent */
 
-/* A book. The areas of one part are equally long, in elements. */
+/* A book; lengths are in elements. Fill it with areas of your own, or declare it by TONGSVALE_STATIC_BOOK. */
 struct tongsvale_book {
     uint64_t *head; /* TONGSVALE_HEAD_LENGTH */
     size_t root_length;
@@ -226,20 +229,20 @@ struct tongsvale_book {
     double *logarithms;
 };
 
-/* What a cut works in, and writes its tokens to. Its content plays no part, and is left with no meaning but for the tokens. A cut
- * of all words takes chars, offsets and tokens alone. */
+/* What a cut works in and writes its tokens to. What it holds at first plays no part; afterwards the tokens alone have a
+ * meaning. cut_all takes chars, offsets and tokens, and asks nothing of the others. */
 struct tongsvale_work {
     size_t work_length; /* at least the sentence's characters + 1 */
     uint32_t *chars;
     uint32_t *offsets;
-    size_t *starts;
+    size_t *starts; /* places in the edge area */
     double *scores;
     uint32_t *ends;
     uint32_t *records;
-    size_t edge_length;
+    size_t edge_length; /* TONGSVALE_EDGES */
     uint32_t *edge_ends;
     uint32_t *edge_records;
-    size_t token_length; /* TONGSVALE_TOKEN_WIDTH for each token */
+    size_t token_length; /* TONGSVALE_TOKEN_WIDTH for each place */
     uint32_t *tokens;
 };
 
@@ -281,8 +284,8 @@ static inline struct tongsvale_token tongsvale_token_at(const struct tongsvale_w
 
 /* ---- the exported calls
  *
- * An area is two parameters, a pointer and a number of elements (not bytes). The wrappers at the end of this file make these
- * calls with a struct tongsvale_book and a struct tongsvale_work. */
+ * An area, here a slice, is two parameters, a pointer and a number of elements (not bytes). The wrappers at the end make these
+ * calls with a struct tongsvale_book and a struct tongsvale_work; what is said here holds for them. */
 
 /* Makes an empty book, whatever the areas held: all zeros, next node 1, every word number -1. Returns 0, or 1 with
  * everything unchanged. */
@@ -443,7 +446,7 @@ struct tongsvale_cut_result tongsvale_cut_all(
     uint32_t *offsets, size_t offsets_length,
     uint32_t *tokens, size_t tokens_length);
 
-/* ---- the same calls, on a book and a work area. Each does what the export in it does. */
+/* ---- the wrappers */
 
 /* The areas of a book, and of the work on a sentence, as an export takes them. */
 #define TONGSVALE_BOOK_AREAS(book) \
