@@ -150,7 +150,7 @@ fn main() {
     let load = |book: &mut Book| {
         let loaded = book.load(dict.as_bytes());
         assert_eq!((loaded.number, loaded.line), (0, words));
-        book.head[0] as usize
+        book.head()[0] as usize
     };
     let records = |rust: &Jieba| format!("{rust:?}").split(|c: char| !c.is_ascii_digit()).find_map(|s| s.parse().ok()).unwrap();
     println!("dictionary: {words} lines, {} bytes; {RUNS} runs of each side by turns", dict.len());

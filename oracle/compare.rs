@@ -11,6 +11,7 @@
 mod library;
 
 use library::{Book, Work};
+use tongsvale::TokenizeMode;
 use std::collections::BTreeMap;
 use std::fmt::Write as _;
 use std::io::Write as _;
@@ -288,8 +289,8 @@ impl Comparison {
         }
         self.calls += plan.calls.len() as u64;
         let expected = (plan.held.len() as u64, plan.total);
-        if (book.head[0], book.head[3]) != expected {
-            self.difference(plan, &sizes, "records and total", &expected, &(book.head[0], book.head[3]));
+        if (book.head()[0], book.head()[3]) != expected {
+            self.difference(plan, &sizes, "records and total", &expected, &(book.head()[0], book.head()[3]));
         }
         Some(Sized { book, sizes })
     }
@@ -321,7 +322,7 @@ impl Comparison {
         let searched = rust.cut_for_search(sentence);
         let cut_all = rust.cut_all(sentence);
         let mut work = self.work.take().unwrap_or_else(|| Work::new(1024, 16_384));
-        work.reserve(chars, 16 * chars.min(100_000) + 3 * chars);
+        work.reserve(16 * chars.min(100_000) + 3 * chars);
         for (i, sized) in books.iter().enumerate() {
             // Places exactly enough and more than enough, by turns.
             let spare = (self.sentences as usize + i) % 2 * 3;
@@ -335,7 +336,7 @@ impl Comparison {
             lent.resize(cut.len() + 4 * spare, UNTOUCHED);
             let answer = match by_mode {
                 false => sized.book.cut(sentence.as_bytes(), &mut work, length, &mut lent),
-                true => sized.book.tokenize(sentence.as_bytes(), 0, &mut work, length, &mut lent),
+                true => sized.book.tokenize(sentence.as_bytes(), TokenizeMode::Default, &mut work, length, &mut lent),
             };
             self.cuts += 1;
             self.check(plan, sized, "cut", sentence, &cut, &answer, &lent);
@@ -344,7 +345,7 @@ impl Comparison {
             lent.resize(searched.len() + 4 * spare, UNTOUCHED);
             let answer = match by_mode {
                 false => sized.book.cut_for_search(sentence.as_bytes(), &mut work, length, &mut lent),
-                true => sized.book.tokenize(sentence.as_bytes(), 1, &mut work, length, &mut lent),
+                true => sized.book.tokenize(sentence.as_bytes(), TokenizeMode::Search, &mut work, length, &mut lent),
             };
             self.cuts_for_search += 1;
             self.check(plan, sized, "cut_for_search", sentence, &searched, &answer, &lent);
@@ -716,7 +717,7 @@ fn compare_real(comparison: &mut Comparison, dict: &str, text: &str, otherwise: 
         .collect();
     comparison.books += 1;
     comparison.sized_books += books.len() as u64;
-    println!("real dictionary: {records} words, total {}, {} slots used of 1048576", plan.total, books[0].book.head[1]);
+    println!("real dictionary: {records} words, total {}, {} slots used of 1048576", plan.total, books[0].book.head()[1]);
     comparison.words(&plan, &mut rust, &books);
 
     let mut lines = 0;
