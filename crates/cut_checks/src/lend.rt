@@ -1,6 +1,5 @@
 //! A case is played: a book is prepared and loaded in areas of the given lengths, changed by stores, and then cut with. The areas
 //! hold sevens at first. The parts of a case are the heading, the lengths, the dictionary, the stores and the cuts.
-use crate::cutting;
 use crate::stores;
 use book::Head;
 use book::Prepared;
@@ -9,6 +8,7 @@ use cases::output;
 use cases::output::print;
 use cases::output::print_next;
 use cases::script;
+use cut_cases::cutting;
 use load_lines::Loaded;
 
 // Prints what `prepare` answered. Where there is no book the head is zeros.

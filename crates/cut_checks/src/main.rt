@@ -6,10 +6,7 @@
 //! reads the same cases and computes it from document 01, with a model of the book in plain lists. Proved here is only that the program
 //! is safe and ends. Number 2 is left out: a sentence over 16,777,215 bytes does not fit a program's stack, and neither do more than
 //! 4,194,304 slots or 1,048,576 records.
-mod cutting;
-mod kept;
 mod lend;
-mod line;
 mod stores;
 
 use cases::output::print;

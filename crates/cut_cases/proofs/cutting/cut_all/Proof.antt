@@ -1,10 +1,10 @@
--- `cut_checks::cutting::cut_all` is safe: each length that is lent is at most its array's.
+-- `cut_cases::cutting::cut_all` is safe: each length that is lent is at most its array's.
 -- Assumes nothing.
 use native.Mathlib.Omega.{arith}
 use lib.ListN.{length-take}
 use borrow.Author.Needs.{needs}
-use Rattle.cut_checks.proofs.cutting.cut_all.Statement.{statement}
-use Rattle.cut_checks.proofs.cutting.cut_all.Tie as tie
+use Rattle.cut_cases.proofs.cutting.cut_all.Statement.{statement}
+use Rattle.cut_cases.proofs.cutting.cut_all.Tie as tie
 
 length-requires : tie.Need-length-requires
 length-requires c κs = search needs

@@ -1,10 +1,10 @@
--- `cut_checks::kept::is_sevens_usize` is safe and ends: the index is at most the area's length, and the measure is what is left of it.
+-- `cut_cases::kept::is_sevens_usize` is safe and ends: the index is at most the area's length, and the measure is what is left of it.
 -- Assumes nothing.
 use Prim.Native.Nat.{_≤_, _-_}
 use lib.ListN.{length}
 use borrow.Author.Needs.{needs}
-use Rattle.cut_checks.proofs.kept.is_sevens_usize.Statement.{statement}
-use Rattle.cut_checks.proofs.kept.is_sevens_usize.Tie as tie
+use Rattle.cut_cases.proofs.kept.is_sevens_usize.Statement.{statement}
+use Rattle.cut_cases.proofs.kept.is_sevens_usize.Tie as tie
 
 abbrev Inv-loop : tie.InvT-loop
 Inv-loop s i₀ i = i ≤ length s

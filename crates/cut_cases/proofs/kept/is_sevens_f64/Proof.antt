@@ -1,10 +1,10 @@
--- `cut_checks::kept::is_sevens` is safe and ends: the index is at most the area's length, and the measure is what is left of it.
+-- `cut_cases::kept::is_sevens_f64` is safe and ends: the index is at most the area's length, and the measure is what is left of it.
 -- Assumes nothing.
 use Prim.Native.Nat.{_≤_, _-_}
 use lib.ListN.{length}
 use borrow.Author.Needs.{needs}
-use Rattle.cut_checks.proofs.kept.is_sevens.Statement.{statement}
-use Rattle.cut_checks.proofs.kept.is_sevens.Tie as tie
+use Rattle.cut_cases.proofs.kept.is_sevens_f64.Statement.{statement}
+use Rattle.cut_cases.proofs.kept.is_sevens_f64.Tie as tie
 
 abbrev Inv-loop : tie.InvT-loop
 Inv-loop s i₀ i = i ≤ length s
@@ -36,8 +36,8 @@ loop-again c = search needs
 returns-2 : tie.Need-returns-2 Inv-loop μ-loop
 returns-2 c = search needs
 
-pub is-sevens-spec : {M : Type 1} → statement M
-is-sevens-spec =
+pub is-sevens-f64-spec : {M : Type 1} → statement M
+is-sevens-f64-spec =
     tie.close
     (tie.spec
     Inv-loop

@@ -1,10 +1,10 @@
--- `cut_checks::cutting::play` is safe and ends: a command ends within the cuts, and the measure is what is left of it.
+-- `cut_cases::cutting::play` is safe and ends: a command ends within the cuts, and the measure is what is left of it.
 -- Assumes nothing.
 use Prim.Native.Nat.{_-_}
 use lib.ListN.{length}
 use borrow.Author.Needs.{needs}
-use Rattle.cut_checks.proofs.cutting.play.Statement.{statement}
-use Rattle.cut_checks.proofs.cutting.play.Tie as tie
+use Rattle.cut_cases.proofs.cutting.play.Statement.{statement}
+use Rattle.cut_cases.proofs.cutting.play.Tie as tie
 
 abbrev Inv-loop : tie.InvT-loop
 Inv-loop root-children root-words keys children words frequencies logarithms cuts head₀ at₀ head at =

@@ -1,10 +1,10 @@
--- `cut_checks::line::print_tokens` is safe and ends: the index is at most the area's length, and the measure is what is left of it.
+-- `cut_cases::line::print_tokens` is safe and ends: the index is at most the area's length, and the measure is what is left of it.
 -- Assumes nothing.
 use Prim.Native.Nat.{_≤_, _-_}
 use lib.ListN.{length}
 use borrow.Author.Needs.{needs}
-use Rattle.cut_checks.proofs.line.print_tokens.Statement.{statement}
-use Rattle.cut_checks.proofs.line.print_tokens.Tie as tie
+use Rattle.cut_cases.proofs.line.print_tokens.Statement.{statement}
+use Rattle.cut_cases.proofs.line.print_tokens.Tie as tie
 
 abbrev Inv-loop : tie.InvT-loop
 Inv-loop tokens i₀ i = i ≤ length tokens
