@@ -74,7 +74,9 @@ impl Work {
 
     /// What a cut answers with so many places of the work area and this token area.
     fn answer(&mut self, length: usize, tokens: &mut Vec<u32>, cut: impl FnOnce(&mut Scratch) -> Cut) -> Cut {
-        self.lend(length);
+        if self.scratch.chars.len() != length {
+            self.lend(length);
+        }
         std::mem::swap(&mut self.scratch.tokens, tokens);
         let answer = cut(&mut self.scratch);
         std::mem::swap(&mut self.scratch.tokens, tokens);

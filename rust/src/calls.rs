@@ -263,6 +263,7 @@ extern "C" {
 }
 
 /// Makes an empty book.
+#[inline]
 pub(crate) fn prepare(book: &mut Areas) -> u32 {
     // Sound: eight different `Vec`s, all borrowed by `&mut` for the call.
     unsafe {
@@ -288,6 +289,7 @@ pub(crate) fn prepare(book: &mut Areas) -> u32 {
 }
 
 /// Loads a dictionary text.
+#[inline]
 pub(crate) fn load(book: &mut Areas, text: &[u8]) -> Loaded {
     // Sound: the book's eight `Vec`s are borrowed by `&mut`, so `text` is none of them; it is only read.
     unsafe {
@@ -315,6 +317,7 @@ pub(crate) fn load(book: &mut Areas, text: &[u8]) -> Loaded {
 }
 
 /// Adds a word.
+#[inline]
 pub(crate) fn add(book: &mut Areas, word: &[u8], frequency: u64) -> Added {
     // Sound: the book's eight `Vec`s are borrowed by `&mut`, so `word` is none of them; it is only read.
     unsafe {
@@ -343,6 +346,7 @@ pub(crate) fn add(book: &mut Areas, word: &[u8], frequency: u64) -> Added {
 }
 
 /// Looks a word up.
+#[inline]
 pub(crate) fn lookup(book: &Areas, word: &[u8]) -> Found {
     // Sound: nothing is written, and all slices are borrowed for the call.
     unsafe {
@@ -415,24 +419,28 @@ macro_rules! with_all_areas {
 }
 
 /// Cuts a sentence into words.
+#[inline]
 pub(crate) fn cut(book: &Areas, sentence: &[u8], scratch: &mut Scratch) -> Cut {
     // Sound: only the nine `Vec`s of `scratch` are written; they are borrowed by `&mut`, so book and sentence are none of them.
     unsafe { with_all_areas!(tongsvale_cut, book, sentence, scratch) }
 }
 
 /// Cuts a sentence into words, before each of them what search finds in it.
+#[inline]
 pub(crate) fn cut_for_search(book: &Areas, sentence: &[u8], scratch: &mut Scratch) -> Cut {
     // Sound: as `cut`; the same areas are read and written.
     unsafe { with_all_areas!(tongsvale_cut_for_search, book, sentence, scratch) }
 }
 
 /// Cuts a sentence into words by a mode.
+#[inline]
 pub(crate) fn tokenize(book: &Areas, sentence: &[u8], mode: u32, scratch: &mut Scratch) -> Cut {
     // Sound: as `cut`; the same areas are read and written, and every number is answered as a mode.
     unsafe { with_all_areas!(tongsvale_tokenize, book, sentence, scratch, mode) }
 }
 
 /// Cuts a sentence into all the words that it holds.
+#[inline]
 pub(crate) fn cut_all(book: &Areas, sentence: &[u8], scratch: &mut Scratch) -> Cut {
     // Sound: only three `Vec`s of `scratch` are written; they are borrowed by `&mut`, so book and sentence are none of them.
     unsafe {

@@ -55,6 +55,7 @@ impl Error {
 }
 
 /// A returned number as a result.
+#[inline]
 pub(crate) fn result_of(number: u32) -> Result<(), Error> {
     Err(match number {
         0 => return Ok(()),

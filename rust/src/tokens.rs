@@ -47,6 +47,7 @@ impl<'s> Iterator for Tokens<'s, '_> {
 impl ExactSizeIterator for Tokens<'_, '_> {}
 
 /// What a cut of a sentence returned.
+#[inline]
 pub(crate) fn tokens_of<'s, 't>(cut: Cut, sentence: &'s [u8], area: &'t [u32]) -> Result<Tokens<'s, 't>, Stopped<'s, 't>> {
     let tokens = Tokens { sentence, numbers: area[..cut.count * TOKEN_WIDTH].chunks_exact(TOKEN_WIDTH) };
     match error::result_of(cut.number) {
