@@ -7,78 +7,10 @@ ghost use Prim.Native.Nat.{_+_, _≤_};
 ghost use lib.ListN.{length};
 ghost use Rattle.trie.specs.Lent.{was, became};
 ghost use Rattle.book.specs.Areas.{bookLent, bookLeft};
-ghost use Rattle.printing.specs.Answers.{Put};
-ghost use Rattle.answers.specs.Answers.{longestAnswer, answerBy, answerOf, Answered};
+ghost use Rattle.answers.specs.Answers.{longestAnswer, answerOf, Answered};
 use answers::Answer;
 use book::Head;
-use cuts::TokenizeMode;
 use frames::Kind;
-
-// Answers a frame that leaves the book as it is, and what is no frame.
-fn put_answer(
-    head: Head,
-    root_children: &[u32],
-    root_words: &[i32],
-    keys: &[u64],
-    children: &[u32],
-    words: &[i32],
-    frequencies: &[u32],
-    logarithms: &[f64],
-    kind: Kind,
-    text: &[u8],
-    out: &mut [u8],
-    at: usize,
-) -> usize
-    requires { ⌜ (at + longestAnswer ≤ length (now out)) × (kind ≡ Kind.Load → ⊥) ⌝ }
-    ensures { λ r. ⌜ Put (was out) at (answerBy kind (bookLent head «root_children» «root_words» keys children words frequencies logarithms)
-        (was text) .line) (became out) r ⌝ }
-    ensures { λ r. ⌜ r ≤ at + longestAnswer ⌝ }
-{
-    match kind {
-        Kind::Cut => answers::put_tokenize(
-            head,
-            root_children,
-            root_words,
-            keys,
-            children,
-            words,
-            frequencies,
-            logarithms,
-            text,
-            TokenizeMode::Default,
-            out,
-            at,
-        ),
-        Kind::CutAll => answers::put_cut_all(
-            head,
-            root_children,
-            root_words,
-            keys,
-            children,
-            words,
-            frequencies,
-            logarithms,
-            text,
-            out,
-            at,
-        ),
-        Kind::CutForSearch => answers::put_tokenize(
-            head,
-            root_children,
-            root_words,
-            keys,
-            children,
-            words,
-            frequencies,
-            logarithms,
-            text,
-            TokenizeMode::Search,
-            out,
-            at,
-        ),
-        _ => printing::put_no_frame(out, at),
-    }
-}
 
 // Answers a line without its end: writes the answer from a place on.
 pub fn answer_line(
@@ -118,7 +50,7 @@ pub fn answer_line(
             at,
         );
     }
-    let end = put_answer(
+    let end = answer_cut::put_answer(
         head,
         root_children,
         root_words,

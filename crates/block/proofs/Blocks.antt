@@ -25,9 +25,9 @@ use Rattle.cuts.specs.declared.TokenizeMode.{TokenizeMode}
 use Rattle.cuts.specs.declared.TokenizeMode.the-variants.{Default, Search}
 use Rattle.cuts.specs.Tokens.{Span, Written, anyOf, singly, searched, cutRoute}
 use Rattle.cuts.specs.Cuts.{CutAnswer, answer, Base, putSpans, cutEdges, searchEdges, cutBlock, searchBlock}
-use Rattle.sparse_dag.specs.declared.Prefixes.{Prefixes}
-use Rattle.sparse_dag.specs.declared.Prefixes.the-variants as Prefixes
-use Rattle.sparse_dag.specs.Edges.{WalkedBlock}
+use Rattle.prefixes.specs.declared.Prefixes.{Prefixes}
+use Rattle.prefixes.specs.declared.Prefixes.the-variants as Prefixes
+use Rattle.prefixes.specs.Edges.{WalkedBlock}
 use Rattle.search_words.specs.Rising.{EndsRise}
 use Rattle.search.proofs.Brought.{outside-class}
 use Rattle.search_words.proofs.Rising.{ends-rise}

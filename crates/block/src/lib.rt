@@ -18,8 +18,8 @@ ghost use Rattle.block.specs.Plans.{WorkFits, Planned, blockBy, OneKind}
 use book::Outcome;
 use cuts::Cut;
 use cuts::TokenizeMode;
-use sparse_dag::Prefixes;
-use splitter::Run;
+use prefixes::Prefixes;
+use runs::Run;
 
 // What a cut goes by beside slices: its mode, and of the book the shift of its slots, the records used, and L of its total.
 pub struct Plan {
@@ -93,7 +93,7 @@ pub fn cut_block(
         },
         Prefixes::Edges(_) => {
             let mode = plan.mode;
-            route::calc(
+            calc::calc(
                 starts,
                 edge_ends,
                 edge_records,

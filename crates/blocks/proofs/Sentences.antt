@@ -11,9 +11,9 @@ use Rattle.trie.specs.Trie.{CharTrie}
 use Rattle.utf8.specs.Text.{charsOf}
 use Rattle.classes.specs.Blocks.{cutClass}
 use Rattle.cuts.specs.Edges.{vocabularyOf}
-use Rattle.splitter.specs.declared.CharacterClass.the-variants.{Default}
-use Rattle.splitter.specs.declared.Run.{Run}
-use Rattle.splitter.specs.Runs.{classOf, Recorded}
+use Rattle.runs.specs.declared.CharacterClass.the-variants.{Default}
+use Rattle.runs.specs.declared.Run.{Run}
+use Rattle.runs.specs.Runs.{classOf, Recorded}
 use Rattle.splitter.proofs.OneKind.{one-kind}
 use Rattle.splitter.proofs.Cutting as Loop
 use Rattle.block.specs.declared.Plan.{Plan}

@@ -13,12 +13,12 @@ ghost use Rattle.cuts.specs.Blocks.{blocksOf};
 ghost use Rattle.cuts.specs.Edges.{vocabularyOf};
 ghost use Rattle.cuts.specs.Tokens.{written};
 ghost use Rattle.cuts.specs.Cuts.{cutAnswer, cutBlocks, start};
-ghost use Rattle.splitter.specs.Runs.{textFrom};
+ghost use Rattle.runs.specs.Runs.{textFrom};
 ghost use Rattle.block.specs.Plans.{WorkFits, Planned, blockBy};
 use block::Plan;
 use book::Outcome;
 use cuts::Cut;
-use splitter::CharacterClass;
+use runs::CharacterClass;
 
 // The blocks of a sentence, one after the other, up to one that is stopped.
 pub fn cut_blocks(
@@ -55,7 +55,7 @@ pub fn cut_blocks(
     let mut base: u32 = 0;
     let mut count: usize = 0;
     while splitter::has_next(sentence, at) {
-        let run = splitter::next_recording(sentence, at, CharacterClass::Default, chars, offsets);
+        let run = runs::next_recording(sentence, at, CharacterClass::Default, chars, offsets);
         let cut = block::cut_block(
             root_children,
             root_words,

@@ -2,7 +2,6 @@
 pub mod Outcomes
 pub mod Numbers
 pub mod Sizes
-pub mod Empties
 pub mod Decisions
 pub mod Held
 pub mod Areas

@@ -1,14 +1,9 @@
-//! What a book is and what the calls on it return: its head, the sizes that are allowed, the damage that a head shows,
-//! and the decision by which a word enters.
+//! What a book is and what the calls on it return: its head, the sizes that are allowed, and the damage that a head shows.
 
 ghost use mathlib.Core.Path.{_≡_};
-ghost use Prim.Native.Nat.{_-_, _≤_, _<_};
-ghost use lib.Dec.{leb};
-ghost use lib.ListN.{length};
-ghost use Rattle.trie.specs.Lent.{was};
-ghost use Rattle.book.specs.Returns.{numberOf, isDone, longestText, greatestTotal, greatestNext, allowed, headDamaged};
+ghost use Prim.Native.Nat.{_≤_};
 ghost use Rattle.trie.specs.SlotCounts.{mostSlots};
-ghost use Rattle.book.specs.Enter.{noRecord, nextRecord, emptySlots, replaceBy, insertBy};
+ghost use Rattle.book.specs.Returns.{numberOf, isDone, allowed, headDamaged};
 
 // The numbers of document 01's table, by their meaning.
 pub enum Outcome {
@@ -113,14 +108,6 @@ pub const GREATEST_TOTAL: u64 = 4_294_967_295;
 // The greatest number of the next node: the last that is given out is the one before it.
 pub const GREATEST_NEXT: u64 = 16_777_215;
 
-// The nodes for which a search for empty slots starts at one place.
-const STAY: u64 = 1_024;
-
-// The golden ratio's share of 2^32: its multiples spread evenly over it.
-const GOLDEN: u64 = 0x9E37_79B9;
-
-const PARTS: u64 = 0x1_0000_0000;
-
 // Whether the lengths of a book's areas are allowed: the root's two, the slots' three, the records' two.
 pub fn is_allowed(
     root_children: usize,
@@ -157,104 +144,4 @@ pub fn is_head_damaged(head: Head, records: usize, slots: usize) -> bool
         | (GREATEST_TOTAL < head.total)
         | (head.next < 1)
         | (GREATEST_NEXT < head.next)
-}
-
-// How many empty slots are still wanted after these, of so many. It looks no further than it has to.
-fn still_wanted(keys: &[u64], count: u64) -> u64
-    ensures { λ r. ⌜ r ≡ count - emptySlots (was keys) ⌝ }
-{
-    let mut left = count;
-    let mut i = 0;
-    while i < keys.len() {
-        if left == 0 {
-            return 0;
-        }
-        if keys[i] == 0 {
-            left -= 1;
-        }
-        i += 1;
-    }
-    left
-}
-
-// Whether so many slots are empty, or more: looked for from the start on, and then before it.
-fn has_empty(keys: &[u64], start: usize, count: u64) -> bool
-    requires { ⌜ start ≤ length (now keys) ⌝ }
-    ensures { λ r. ⌜ r ≡ leb count (emptySlots (was keys)) ⌝ }
-{
-    let left = still_wanted(&keys[start..], count);
-    still_wanted(&keys[..start], left) == 0
-}
-
-// Where a new word's search for empty slots starts: a place that goes far each time it moves, so that a long run of taken slots
-// is not passed again for every new word. It stays for some nodes, since a search that is much like the last one is quicker.
-fn search_start(next: u64, slots: usize) -> usize
-    requires { ⌜ (next ≤ greatestNext) × (slots ≤ mostSlots) ⌝ }
-    ensures { λ r. ⌜ r ≤ slots ⌝ }
-{
-    let part = (next / STAY + 1) * GOLDEN % PARTS;
-    (part * slots as u64 / PARTS) as usize
-}
-
-// Whether every record is taken, of so many.
-pub fn no_record(head: Head, records: usize) -> bool
-    ensures { λ r. ⌜ r ≡ noRecord head records ⌝ }
-{
-    records as u64 <= head.records
-}
-
-// The record that a new word takes.
-pub fn next_record(head: Head) -> u64
-    ensures { λ r. ⌜ r ≡ nextRecord head ⌝ }
-{
-    head.records
-}
-
-// How a word that is held enters, by the total, its record's old frequency and that record.
-pub fn decide_held(total: u64, old: u32, n: usize, frequency: u64) -> Decision
-    requires { ⌜ (total ≤ greatestTotal) × (frequency ≤ greatestTotal) ⌝ }
-    ensures { λ r. ⌜ r ≡ replaceBy total old n frequency ⌝ }
-{
-    let old = old as u64;
-    if total < old {
-        return Decision::Refuse(Outcome::Damaged);
-    }
-    let new = total - old + frequency;
-    if GREATEST_TOTAL < new {
-        return Decision::Refuse(Outcome::TotalTooLarge);
-    }
-    Decision::Replace(n, new)
-}
-
-// How a new word enters that takes so many slots and nodes.
-pub fn decide_new(
-    head: Head,
-    records: usize,
-    keys: &[u64],
-    slots: u64,
-    nodes: u64,
-    frequency: u64,
-) -> Decision
-    requires { ⌜ (length (now keys) ≤ mostSlots) × (head .slots ≤ length (now keys)) ⌝ }
-    requires { ⌜ (head .total ≤ greatestTotal) × (head .next ≤ greatestNext) × (frequency ≤ greatestTotal) ⌝ }
-    requires { ⌜ (slots ≤ longestText) × (nodes ≤ longestText) ⌝ }
-    ensures { λ r. ⌜ r ≡ insertBy head records (was keys) slots nodes frequency ⌝ }
-{
-    let total = head.total + frequency;
-    if GREATEST_TOTAL < total {
-        return Decision::Refuse(Outcome::TotalTooLarge);
-    }
-    if no_record(head, records) {
-        return Decision::Refuse(Outcome::RecordsFull);
-    }
-    if keys.len() as u64 * 6 < (head.slots + slots) * 8 {
-        return Decision::Refuse(Outcome::SlotsFull);
-    }
-    if !has_empty(keys, search_start(head.next, keys.len()), slots) {
-        return Decision::Refuse(Outcome::Damaged);
-    }
-    if GREATEST_NEXT < head.next + nodes {
-        return Decision::Refuse(Outcome::Damaged);
-    }
-    Decision::Insert(slots, nodes, total)
 }

@@ -1,3 +1,2 @@
--- What the proofs of `cut_all` rest on: one block after another, and the call by its tests.
-pub mod Blocks
+-- What the proof of `cut_all` rests on: the call by its tests.
 pub mod Sentences

@@ -27,7 +27,7 @@ use Rattle.cuts.specs.Edges.{vocabularyOf}
 use Rattle.cuts.specs.Tokens.{Written, written}
 use Rattle.cuts.specs.Cuts.{CutAnswer, answer, cutAnswer, cutAllBlock, cutBlocks, start, testedBook, cutWith, cutAllOf, begins}
 use Rattle.sentence.proofs.Beginning.{Begun, refused, begun, has-begun, shorter-first, shorter-second}
-use Rattle.splitter.specs.Runs.{textFrom}
+use Rattle.runs.specs.Runs.{textFrom}
 use Rattle.splitter.proofs.Sentences.{text-start}
 use Rattle.cut_all.specs.Areas.{workOf}
 

@@ -1,3 +1,2 @@
--- What the proofs of `cut_all_tokens` rest on: the walk from a position, and one position after another.
-pub mod Walks
+-- What the proof of `cut_all_tokens` rests on: one position after another.
 pub mod Positions

@@ -21,7 +21,7 @@ use Rattle.cuts.specs.Tokens.{Written, written}
 use Rattle.cuts.specs.Cuts.{CutAnswer, answer, cutAnswer, andThen, Base, putSpans, spansOf, putWalks}
 use Rattle.cuts.proofs.Sequence.{goes-on, stops, then-alike, then-after}
 use Rattle.cuts.proofs.Walks.{no-more-walks, first-walk}
-use Rattle.cut_all_tokens.specs.Walks.{putWalk}
+use Rattle.words_at.specs.Walks.{putWalk}
 
 -- ---- the words of a first walk, and then those of the others
 

@@ -1,10 +1,7 @@
-//! Every word of a block (lib.rs, `cut_all_tokens`).
-//!
-//! As in the Rust, the walk through the trie visits the words in the order of the output, so that they are written as it meets
-//! them, and no edge is kept.
+//! Every word of a block, position after position (lib.rs, `cut_all_tokens`).
 ghost use mathlib.Core.Path.{_≡_};
 ghost use Prim.Native.Nat.{_+_, _-_, _≤_, _<_};
-ghost use lib.ListN.{length, take, drop};
+ghost use lib.ListN.{length, take};
 ghost use Rattle.trie.specs.Trie.{SlotCount, log2};
 ghost use Rattle.trie.specs.Lent.{was, became, trieLent};
 ghost use Rattle.walk.specs.Walk.{EquallyLong};
@@ -14,82 +11,8 @@ ghost use Rattle.cuts.specs.Slices.{SeenAs, Characters, Placed};
 ghost use Rattle.cuts.specs.Edges.{walksOf};
 ghost use Rattle.cuts.specs.Tokens.{written};
 ghost use Rattle.cuts.specs.Cuts.{cutAnswer, Base, putWalks};
-ghost use Rattle.cut_all_tokens.specs.Walks.{putWalk};
 use book::Outcome;
 use cuts::Cut;
-use trie::ParentRef;
-use trie::Step;
-use trie::WordNumber;
-
-// Writes the words that start at a position of a block of n characters, as the walk meets them.
-fn words_at(
-    root_children: &[u32],
-    root_words: &[i32],
-    keys: &[u64],
-    children: &[u32],
-    words: &[i32],
-    shift: u32,
-    used: usize,
-    chars: &[u32],
-    offsets: &[u32],
-    n: usize,
-    at: usize,
-    base: u32,
-    tokens: &mut [u32],
-    count: usize,
-) -> Cut
-    requires { ⌜ EquallyLong (now «root_children») (now «root_words») (now keys) (now children) (now words) ⌝ }
-    requires { ⌜ SlotCount (length (now keys)) × (shift ≡ 64 - log2 (length (now keys))) ⌝ }
-    requires { ⌜ (at < n) × (n ≤ length (now chars)) × (n < length (now offsets)) × Characters n (now chars) × (base + n ≤ longestText) ⌝ }
-    ensures { λ r. ⌜ ((b : Book) (place : Base) → SeenAs b (trieLent «root_children» «root_words» keys children words) used
-        → Placed place base (take n (was chars)) (was offsets)
-        → cutAnswer r (became tokens) ≡ putWalk place (take n (was chars)) at (written count (was tokens)) (wordsFrom b at (drop at (take n (was chars))))) ⌝ }
-{
-    let mut count = count;
-    let mut place = ParentRef::Root;
-    let mut next = at;
-    while next < n {
-        match walk::tested_step(root_children, keys, children, shift, place, chars[next]) {
-            Step::At(child) => {
-                place = child;
-                next += 1;
-            }
-            Step::Nothing => {
-                return Cut {
-                    outcome: Outcome::Done,
-                    count,
-                };
-            }
-            Step::Damaged => {
-                return Cut {
-                    outcome: Outcome::Damaged,
-                    count,
-                };
-            }
-        }
-        match walk::word_at(root_words, words, used, place) {
-            WordNumber::NoWord => {}
-            WordNumber::Record(_) => {
-                let put = tokens::emit_span(offsets, base, at, next, tokens, count);
-                let outcome = put.outcome;
-                count = put.count;
-                if !book::is_done(outcome) {
-                    return Cut { outcome, count };
-                }
-            }
-            WordNumber::Bad => {
-                return Cut {
-                    outcome: Outcome::Damaged,
-                    count,
-                };
-            }
-        }
-    }
-    Cut {
-        outcome: Outcome::Done,
-        count,
-    }
-}
 
 // Writes every word of a block of n characters, position after position.
 pub fn cut_all_tokens(
@@ -117,7 +40,7 @@ pub fn cut_all_tokens(
     let mut count = count;
     let mut at: usize = 0;
     while at < n {
-        let put = words_at(
+        let put = words_at::words_at(
             root_children,
             root_words,
             keys,

@@ -21,7 +21,7 @@ use Rattle.cuts.specs.Slices.{shorter}
 use Rattle.cuts.specs.Tokens.{written}
 use Rattle.cuts.specs.Cuts.{CutAnswer, answer, cutBlocks, start, Tested, testedBook, cutWith, begins, cutOf, cutForSearchOf, tokenizeOf}
 use Rattle.sentence.proofs.Beginning.{Begun, refused, begun, has-begun, shorter-first, shorter-second}
-use Rattle.splitter.specs.Runs.{textFrom}
+use Rattle.runs.specs.Runs.{textFrom}
 use Rattle.splitter.proofs.Sentences.{text-start}
 use Rattle.block.specs.Plans.{WorkFits, blockBy}
 use Rattle.cut_sentence.specs.Areas.{workOf}

@@ -7,7 +7,7 @@ ghost use Prim.Native.Nat.{_+_, _≤_, _<_};
 ghost use mathlib.Core.Path.{_≡_};
 ghost use lib.ListN.{length};
 ghost use Rattle.answers.specs.Answers.{longestAnswer};
-ghost use Rattle.frames.specs.Input.{mostKept};
+ghost use Rattle.input_lines.specs.Input.{mostKept};
 
 // The bytes that are read at once, and those that are written at once, if so many are there.
 const BLOCK: usize = 65536;
@@ -81,7 +81,7 @@ fn answer_lines(
     let mut kept = had;
     let mut at: usize = 0;
     while at < input.len() {
-        let taken = frames::take_line(input, at, line, kept);
+        let taken = input_lines::take_line(input, at, line, kept);
         kept = taken.kept;
         at = taken.next;
         if taken.whole {
@@ -166,7 +166,7 @@ pub fn answer_all(
     logarithms: &mut [f64],
 ) {
     let mut space = [0u8; BLOCK];
-    let mut line = [0u8; frames::KEPT];
+    let mut line = [0u8; input_lines::KEPT];
     let mut head = head;
     let mut kept: usize = 0;
     // Nothing says that the input ends; what is counted down here no input reaches.

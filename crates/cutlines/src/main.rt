@@ -1,7 +1,7 @@
 //! The program `cutlines` (document 01, "Examples by book"): reads frames from standard input, one a line, and prints for each
 //! the line that answers it.
 //!
-//! What is proved elsewhere: how the input is split into lines (`frames::take_line`), and what is answered to a line, byte for
+//! What is proved elsewhere: how the input is split into lines (`input_lines::take_line`), and what is answered to a line, byte for
 //! byte, with the book that is left (`answer_line::answer_line`). Here the input is read and the answers are written, in blocks;
 //! that this part is safe, and that each of its steps ends, is what is proved of it. Before more input is waited for, every
 //! answer is written.

@@ -43,7 +43,7 @@ fn decide_absent(
         frequency) ⌝ }
 {
     let used = head.records as usize;
-    match walk::room_for(
+    match word_walk::room_for(
         root_children,
         root_words,
         keys,
@@ -56,8 +56,15 @@ fn decide_absent(
         Room::Damaged => Decision::Refuse(Outcome::Damaged),
         Room::Whole(number) => match number {
             WordNumber::Bad => Decision::Refuse(Outcome::Damaged),
-            WordNumber::NoWord => book::decide_new(head, frequencies.len(), keys, 0, 0, frequency),
-            WordNumber::Record(_) => book::decide_new(
+            WordNumber::NoWord => counts::decide_new(
+                head,
+                frequencies.len(),
+                keys,
+                0,
+                0,
+                frequency,
+            ),
+            WordNumber::Record(_) => counts::decide_new(
                 head,
                 frequencies.len(),
                 keys,
@@ -66,7 +73,7 @@ fn decide_absent(
                 frequency,
             ),
         },
-        Room::Partly(slots, nodes) => book::decide_new(
+        Room::Partly(slots, nodes) => counts::decide_new(
             head,
             frequencies.len(),
             keys,
@@ -100,7 +107,7 @@ pub fn decide(
         frequency) ⌝ }
 {
     let used = head.records as usize;
-    match walk::get(
+    match word_walk::get(
         root_children,
         root_words,
         keys,
@@ -110,7 +117,7 @@ pub fn decide(
         used,
         word,
     ) {
-        Got::Held(n) => book::decide_held(head.total, frequencies[n], n, frequency),
+        Got::Held(n) => counts::decide_held(head.total, frequencies[n], n, frequency),
         Got::Absent => decide_absent(
             head,
             root_children,

@@ -3,30 +3,19 @@
 ghost use mathlib.Core.Path.{_≡_};
 ghost use mathlib.Core.Option.{IsSome};
 ghost use mathlib.Core.Bool.{true};
-ghost use Prim.Native.Nat.{_-_, _≤_, _<_};
-ghost use Rattle.score.specs.Logarithm.{logFloat};
-ghost use lib.ListN.{length, set};
+ghost use Prim.Native.Nat.{_-_, _≤_};
+ghost use lib.ListN.{length};
 ghost use Rattle.utf8.specs.Text.{charsOf};
 ghost use Rattle.trie.specs.Trie.{log2};
 ghost use Rattle.trie.specs.Lent.{was, became};
 ghost use Rattle.book.specs.Areas.{bookLent, bookLeft};
 ghost use Rattle.book.specs.declared.Outcome.the-variants.{Done};
-ghost use Rattle.book.specs.Returns.{longestText, mostRecords, allowed};
+ghost use Rattle.book.specs.Returns.{longestText, allowed};
 ghost use Rattle.book.specs.Enter.{withTotal};
 ghost use Rattle.entry.specs.Texts.{enterAnswer, enterText};
 use book::Decision;
 use book::Head;
 use book::Outcome;
-
-// A record's frequency, and the logarithm that goes with it.
-fn set_record(frequencies: &mut [u32], logarithms: &mut [f64], n: usize, frequency: u32)
-    requires { ⌜ (n < length (now frequencies)) × (n < length (now logarithms)) ⌝ }
-    requires { ⌜ (length (now frequencies) ≤ mostRecords) × (length (now logarithms) ≤ mostRecords) ⌝ }
-    ensures { λ _. ⌜ (became frequencies ≡ set (was frequencies) n frequency) × (became logarithms ≡ set (was logarithms) n (logFloat frequency)) ⌝ }
-{
-    frequencies[n] = frequency;
-    logarithms[n] = score::log(frequency);
-}
 
 // What entering a word answers: 0 or the refusal, and the head that follows.
 pub struct Entered {
@@ -90,11 +79,11 @@ pub fn load_entry(
     match decision {
         Decision::Refuse(outcome) => Entered { outcome, head },
         Decision::Replace(n, total) => {
-            set_record(frequencies, logarithms, n, frequency);
+            records::set_record(frequencies, logarithms, n, frequency);
             replaced(head, total)
         }
         Decision::Insert(slots, nodes, total) => {
-            let n = book::next_record(head);
+            let n = records::next_record(head);
             insert::insert(
                 root_children,
                 root_words,
@@ -106,7 +95,7 @@ pub fn load_entry(
                 head.next as u32,
                 n as i32,
             );
-            set_record(frequencies, logarithms, n as usize, frequency);
+            records::set_record(frequencies, logarithms, n as usize, frequency);
             Entered {
                 outcome: Outcome::Done,
                 head: Head {

@@ -1,5 +1,3 @@
--- The laws by which the functions of `frames` meet their contracts, and the proofs of its claims.
+-- The laws by which the functions of `frames` meet their contracts.
 pub mod Digits
 pub mod Bytes
-pub mod Input
-pub mod Claims

@@ -1,4 +1,2 @@
--- The definitions that the contracts of `frames` cite, and the claims about them.
+-- The definitions that the contracts of `frames` cite.
 pub mod Frames
-pub mod Input
-pub mod Claims

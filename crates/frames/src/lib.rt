@@ -3,9 +3,8 @@
 //! A frame is a line of hexadecimal digits of either case, two for each byte: the kind, and at most 1,024 bytes of text. Here it is
 //! a slice of bytes; who reads it, and what the calls answer, is for others.
 ghost use mathlib.Core.Path.{_≡_};
-ghost use Prim.Native.Nat.{_+_, _*_, _/_, _%_, _<_, _≤_};
+ghost use Prim.Native.Nat.{_+_, _/_, _%_, _≤_};
 ghost use lib.ListN.{length, take, drop};
-ghost use Rattle.frames.specs.Input.{mostKept, taken, lineFrom};
 ghost use Rattle.frames.specs.Frames.{valueOf, byteOf, bytesOf, decoded, kindOf, longest, frame, frameOf};
 
 // The bytes of the longest frame, its kind with them.
@@ -13,9 +12,6 @@ pub const LONGEST: usize = 1025;
 
 // The digits of the longest frame.
 const LONGEST_LINE: usize = 2050;
-
-// The bytes that are kept of a line: one more than the longest frame has digits, so that a longer line is seen to be none.
-pub const KEPT: usize = 2051;
 
 // The value of what is no digit.
 const NO_DIGIT: u32 = 16;
@@ -41,44 +37,6 @@ pub enum Kind {
 pub struct Frame {
     pub kind: Kind,
     pub text: usize,
-}
-
-// A line as far as it has come: how many bytes of it are kept, whether it is whole, and where the input goes on.
-pub struct Taken {
-    pub kept: usize,
-    pub whole: bool,
-    pub next: usize,
-}
-
-// Takes the input from a place on, up to an LF or to its end, and adds it to a line of which so many bytes are kept.
-pub fn take_line(input: &[u8], from: usize, line: &mut [u8], had: usize) -> Taken
-    requires { ⌜ (from < length (now input)) × (had ≤ mostKept) × (length (now line) ≡ mostKept) ⌝ }
-    ensures { λ r. ⌜ taken (take (r .kept) (now (line .exit))) (r .whole) (drop (r .next) (now (input .entry)))
-        ≡ lineFrom (take had (now (line .entry))) (drop from (now (input .entry))) ⌝ }
-    ensures { λ r. ⌜ (r .kept ≤ mostKept) × (from < r .next) × (r .next ≤ length (now (input .entry))) ⌝ }
-{
-    let mut kept = had;
-    let mut at = from;
-    while at < input.len() {
-        let b = input[at];
-        if b == b'\n' {
-            return Taken {
-                kept,
-                whole: true,
-                next: at + 1,
-            };
-        }
-        if kept < KEPT {
-            line[kept] = b;
-            kept += 1;
-        }
-        at += 1;
-    }
-    Taken {
-        kept,
-        whole: false,
-        next: at,
-    }
 }
 
 // The value of a digit, and 16 for any other byte.

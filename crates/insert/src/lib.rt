@@ -96,7 +96,7 @@ fn new_step(
         return Step::At(ParentRef::RootEntry(i));
     }
     let key = trie::key(walk::node_at(root_children, children, place), ch);
-    let Probe::Empty(i) = trie::char_trie::first_empty(keys, shift, key) else {
+    let Probe::Empty(i) = char_trie::first_empty(keys, shift, key) else {
         return Step::Damaged;
     };
     places::set_bits(root_children, keys, children, place, ch);

@@ -92,7 +92,7 @@ pub fn lookup(
     }
     let shift = trie::shift_of(keys.len());
     let used = head.records as usize;
-    match walk::get(
+    match word_walk::get(
         root_children,
         root_words,
         keys,

@@ -1,6 +1,5 @@
--- The proofs of the crate `route`: of the code's functions, each in a folder of its name, with their laws, and of the claim of `specs/`.
+-- The proofs of the crate `route`: of the code's function, with its laws, and of the claims of `specs/`.
 -- Assumes nothing.
 pub mod Choices
-pub mod Edges
-pub mod Positions
+pub mod Words
 pub mod Forward

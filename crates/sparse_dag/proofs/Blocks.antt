@@ -25,10 +25,10 @@ use Rattle.route.specs.Slices.{edgesFrom, edgesAt, rowsFrom, EdgeOf}
 use Rattle.cuts.specs.Edges as Cuts
 use Rattle.cuts.specs.Edges.{edges, stopped, walksOf, before, edgesWithin}
 use Rattle.cuts.proofs.Walks.{no-more-walks, first-walk}
-use Rattle.sparse_dag.specs.declared.Prefixes.{Prefixes}
-use Rattle.sparse_dag.specs.declared.Prefixes.the-variants.{Edges, Full}
-use Rattle.sparse_dag.specs.Edges.{Kept, Pushed, WalkedAt, WalkedBlock}
-use Rattle.sparse_dag.proofs.Slices.{edges-long, edges-same, rows-same, rows-one-more}
+use Rattle.prefixes.specs.declared.Prefixes.{Prefixes}
+use Rattle.prefixes.specs.declared.Prefixes.the-variants.{Edges, Full}
+use Rattle.prefixes.specs.Edges.{Kept, Pushed, WalkedAt, WalkedBlock}
+use Rattle.prefixes.proofs.Slices.{edges-long, edges-same, rows-same, rows-one-more}
 
 -- ---- the edges of a first walk, and then those of the others
 

@@ -1,4 +1,2 @@
--- The proofs of the crate `sparse_dag`: of the code's functions, each in a folder of its name, with their laws. Assumes nothing.
-pub mod Slices
-pub mod Walks
+-- The laws that the function's proof cites.
 pub mod Blocks

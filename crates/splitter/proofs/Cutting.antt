@@ -18,9 +18,9 @@ use Rattle.cuts.specs.Blocks.{Block, blocksOf}
 use Rattle.cuts.specs.Slices.{blockOf, Placed}
 use Rattle.cuts.specs.Tokens.{Written, written}
 use Rattle.cuts.specs.Cuts.{CutAnswer, answer, cutAnswer, Base, cutBlocks, start}
-use Rattle.splitter.specs.declared.CharacterClass.{CharacterClass}
-use Rattle.splitter.specs.declared.Run.{Run}
-use Rattle.splitter.specs.Runs.{classOf, textFrom, Recorded}
+use Rattle.runs.specs.declared.CharacterClass.{CharacterClass}
+use Rattle.runs.specs.declared.Run.{Run}
+use Rattle.runs.specs.Runs.{classOf, textFrom, Recorded}
 use Rattle.splitter.proofs.Sentences.{text-bytes, baseAt, placed, passed, block-stops, block-goes-on, no-block-left}
 
 -- where it stands: before the byte `at`, after so many characters, with so many tokens written. `one` is what is done with a block of a book, and `Lent` says

@@ -8,8 +8,8 @@ use native.Mathlib.Omega.{arith}
 use lib.ListN.{length, getD, take}
 use lib.Seq.{length-take-le, getD-take}
 use Rattle.cuts.specs.Blocks.{Block, onto, blocksOf}
-use Rattle.splitter.specs.declared.Run.{Run}
-use Rattle.splitter.specs.Runs.{textFrom, Recorded}
+use Rattle.runs.specs.declared.Run.{Run}
+use Rattle.runs.specs.Runs.{textFrom, Recorded}
 
 module _ (class : ℕ → Bool) where
   abbrev AllOf : Bool → List ℕ → Type 0

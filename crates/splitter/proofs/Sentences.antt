@@ -20,9 +20,9 @@ use Rattle.cuts.specs.Slices.{blockOf, Placed}
 use Rattle.cuts.specs.Tokens.{Written}
 use Rattle.cuts.specs.Cuts.{CutAnswer, answer, andThen, Base, cutBlocks}
 use Rattle.cuts.proofs.Sequence.{goes-on, stops}
-use Rattle.splitter.specs.declared.Run.{Run}
-use Rattle.splitter.specs.Runs.{textFrom, Recorded}
-use Rattle.splitter.proofs.Recordings.{text-end}
+use Rattle.runs.specs.declared.Run.{Run}
+use Rattle.runs.specs.Runs.{textFrom, Recorded}
+use Rattle.runs.proofs.Recordings.{text-end}
 
 -- ---- the characters of a sentence
 

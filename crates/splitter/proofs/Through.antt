@@ -17,14 +17,14 @@ use Rattle.utf8.specs.Text.{charsFrom}
 use Rattle.utf8.proofs.Positions.{from-malformed, inside, not-within}
 use Rattle.walk.proofs.Characters.{chars-start}
 use Rattle.cuts.specs.Blocks.{Block}
-use Rattle.splitter.specs.declared.CharacterClass.{CharacterClass}
-use Rattle.splitter.specs.declared.Run.{Run}
+use Rattle.runs.specs.declared.CharacterClass.{CharacterClass}
+use Rattle.runs.specs.declared.Run.{Run}
 use Rattle.splitter.specs.declared.SplitByCharacterClass.{SplitByCharacterClass}
-use Rattle.splitter.specs.Runs.{classOf, textFrom, Recorded}
+use Rattle.runs.specs.Runs.{classOf, textFrom, Recorded}
 use Rattle.splitter.specs.Turns.{InTurn, ended, turned, begun, movedTo, hasNext, EveryTextInTurn}
-use Rattle.splitter.proofs.Classes.{same-kind}
-use Rattle.splitter.proofs.Blocks.{EndsBefore}
-use Rattle.splitter.proofs.Recordings.{Recording, nothing-read, one-more-read, ends-with-text, ends-at-character, run-recorded}
+use Rattle.runs.proofs.Classes.{same-kind}
+use Rattle.runs.proofs.Blocks.{EndsBefore}
+use Rattle.runs.proofs.Recordings.{Recording, nothing-read, one-more-read, ends-with-text, ends-at-character, run-recorded}
 use Rattle.splitter.proofs.Turns.{blocks-in-turn}
 
 -- ---- a run

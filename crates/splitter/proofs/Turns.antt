@@ -8,11 +8,11 @@ use lib.ListN.{take}
 use denote.Ref.{now}
 use Rattle.cuts.specs.Blocks.{Block, blocksOf}
 use Rattle.cuts.specs.Slices.{blockOf}
-use Rattle.splitter.specs.declared.CharacterClass.{CharacterClass}
+use Rattle.runs.specs.declared.CharacterClass.{CharacterClass}
 use Rattle.splitter.specs.declared.SplitByCharacterClass.{SplitByCharacterClass}
-use Rattle.splitter.specs.Runs.{classOf, textFrom}
+use Rattle.runs.specs.Runs.{classOf, textFrom}
 use Rattle.splitter.specs.Turns.{InTurn, ended, turned, begun, BlocksInTurn}
-use Rattle.splitter.proofs.Recordings.{text-end}
+use Rattle.runs.proofs.Recordings.{text-end}
 use Rattle.splitter.proofs.Sentences.{text-start}
 
 blocks-left : (class : CharacterClass) (d : SplitByCharacterClass) (bs : List Block) → InTurn class d bs

@@ -1,3 +1,2 @@
--- The definitions that the contracts of `splitter` cite.
-pub mod Runs
+-- The definitions that the contracts of `splitter` cite, and what is claimed of them.
 pub mod Turns

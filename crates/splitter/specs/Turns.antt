@@ -11,10 +11,10 @@ use denote.Ref.{RefT, now}
 use Rattle.utf8.specs.Text.{charsOf}
 use Rattle.cuts.specs.Blocks.{Block, blocksOf}
 use Rattle.cuts.specs.Slices.{blockOf}
-use Rattle.splitter.specs.declared.CharacterClass.{CharacterClass}
-use Rattle.splitter.specs.declared.Run.{Run}
+use Rattle.runs.specs.declared.CharacterClass.{CharacterClass}
+use Rattle.runs.specs.declared.Run.{Run}
 use Rattle.splitter.specs.declared.SplitByCharacterClass.{SplitByCharacterClass}
-use Rattle.splitter.specs.Runs.{classOf, Recorded}
+use Rattle.runs.specs.Runs.{classOf, Recorded}
 
 -- as it is made: at the text's start
 abbrev pub begun : RefT (List ℕ) → SplitByCharacterClass

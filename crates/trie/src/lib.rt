@@ -17,9 +17,6 @@ ghost use Rattle.trie.specs.Trie.{noWord, wordNumber, keyOf, log2, SlotC
 ghost use Rattle.trie.specs.SlotCounts.{slotCount};
 ghost use Rattle.trie.specs.Lent.{was};
 
-// The functions whose counterparts are methods of the Rust's `CharTrie`.
-pub mod char_trie;
-
 // A slot's key is parent × 2^21 + character + 1 in its low 48 bits, and has the first child filter in its high 16 bits.
 const CHARS: u64 = 0x20_0000;
 

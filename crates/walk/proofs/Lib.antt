@@ -1,6 +1,3 @@
 -- Proofs of the claims, and the laws that the functions' proofs, here and in the crates above, cite.
 pub mod Places
 pub mod Characters
-pub mod Lookups
-pub mod NewSteps
-pub mod Rooms

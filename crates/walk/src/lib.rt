@@ -1,25 +1,18 @@
-//! Walks through the trie along a word: the lookup of a word's record, and what a new word would take (trie.rs).
+//! One step of a walk through the trie (trie.rs), and what stands where it leads.
 //!
 //! A walk keeps the place that it has reached, the root, a root entry or a slot, and reads one character after another. A
-//! lookup tests the bits at each step. An insertion tests none, and is looked at here before anything is written: whether its
-//! steps are all there, or how many slots and nodes the missing ones take. The Rust finds out while it inserts, and grows.
+//! lookup tests the bits at each step, and an insertion tests none.
 ghost use mathlib.Core.Path.{_≡_};
 ghost use mathlib.Core.List.{List};
-ghost use mathlib.Core.Option.{IsSome, some};
 ghost use lib.IntN.{ℤ};
 ghost use lib.ListN.{length};
 ghost use Prim.Native.Nat.{ℕ, _-_, _^_, _<_};
 ghost use Rattle.trie.specs.Trie.{log2, SlotCount, nodeAt, fromRoot, openStep, testedStep, wordAt, trieOf};
-ghost use Rattle.trie.specs.declared.ParentRef.the-variants.{Root};
-ghost use Rattle.trie.specs.Lent.{was, trieLent};
-ghost use Rattle.utf8.specs.Text.{charsOf};
-ghost use Rattle.walk.specs.Walk.{EquallyLong, Inside, BeginsWith, firstStep, walkFrom, gotOf, newSteps, roomOf};
-use trie::Got;
+ghost use Rattle.trie.specs.Lent.{was};
+ghost use Rattle.walk.specs.Walk.{Inside, firstStep};
 use trie::ParentRef;
 use trie::Step;
 use trie::WordNumber;
-use trie::char_trie;
-use utf8::CharCount;
 
 // The filter of a root entry, which has no key.
 const ALL_ONES: u64 = 0xFFFF_FFFF_FFFF_FFFF;
@@ -134,114 +127,4 @@ pub fn word_at(root_words: &[i32], words: &[i32], used: usize, place: ParentRef)
         ParentRef::RootEntry(i) => trie::word_number(root_words, i, used),
         ParentRef::Slot(i) => trie::word_number(words, i, used),
     }
-}
-
-// Where a lookup's steps along the word s lead.
-fn walk(root_children: &[u32], keys: &[u64], children: &[u32], shift: u32, s: &[u8]) -> Step
-    requires { ⌜ (length (now children) ≡ length (now keys)) × SlotCount (length (now keys)) ⌝ }
-    requires { ⌜ shift ≡ 64 - log2 (length (now keys)) ⌝ }
-    requires { ⌜ IsSome (charsOf (now s)) ⌝ }
-    ensures { λ r. ⌜ ((rootWords words : List ℤ)
-        → r ≡ walkFrom (trieOf (was «root_children») rootWords (was keys) (was children) words) Root (charsOf (was s))) ⌝ }
-{
-    let mut at: usize = 0;
-    let mut place = ParentRef::Root;
-    while at < s.len() {
-        let next = utf8::next_char(s, at);
-        match tested_step(root_children, keys, children, shift, place, next.value) {
-            Step::At(child) => {
-                place = child;
-                at += next.width;
-            }
-            Step::Nothing => {
-                return Step::Nothing;
-            }
-            Step::Damaged => {
-                return Step::Damaged;
-            }
-        }
-    }
-    Step::At(place)
-}
-
-// The record of the word s, if it is in the dictionary. Only the last place's word number is read.
-pub fn get(
-    root_children: &[u32],
-    root_words: &[i32],
-    keys: &[u64],
-    children: &[u32],
-    words: &[i32],
-    shift: u32,
-    used: usize,
-    s: &[u8],
-) -> Got
-    requires { ⌜ EquallyLong (now «root_children») (now «root_words») (now keys) (now children) (now words) ⌝ }
-    requires { ⌜ SlotCount (length (now keys)) ⌝ }
-    requires { ⌜ shift ≡ 64 - log2 (length (now keys)) ⌝ }
-    requires { ⌜ IsSome (charsOf (now s)) ⌝ }
-    ensures { λ r. ⌜ r ≡ gotOf used (trieLent «root_children» «root_words» keys children words) (charsOf (was s)) ⌝ }
-{
-    match walk(root_children, keys, children, shift, s) {
-        Step::At(place) => match word_at(root_words, words, used, place) {
-            WordNumber::NoWord => Got::Absent,
-            WordNumber::Record(n) => Got::Held(n),
-            WordNumber::Bad => Got::Damaged,
-        },
-        Step::Nothing => Got::Absent,
-        Step::Damaged => Got::Damaged,
-    }
-}
-
-// What new steps take for all characters of s, of which ch is the first, from a place that is there: a node each, and a slot
-// each but for a first character that the root table serves.
-fn new_steps(root_children: &[u32], place: ParentRef, ch: u32, s: &[u8]) -> Room
-    requires { ⌜ BeginsWith ch (charsOf (now s)) ⌝ }
-    ensures { λ r. ⌜ ((rootWords words : List ℤ) (keys children cs : List ℕ) → charsOf (was s) ≡ some cs
-        → r ≡ newSteps (trieOf (was «root_children») rootWords keys children words) place cs) ⌝ }
-{
-    let CharCount::Chars(nodes) = utf8::char_count(s) else {
-        return Room::Damaged;
-    };
-    if from_root(root_children, place, ch) {
-        let slots = nodes - 1;
-        return Room::Partly(slots, nodes);
-    }
-    Room::Partly(nodes, nodes)
-}
-
-// What the word s finds when it is new to the lookup: the insertion's walk, which tests no bits and writes nothing.
-pub fn room_for(
-    root_children: &[u32],
-    root_words: &[i32],
-    keys: &[u64],
-    children: &[u32],
-    words: &[i32],
-    shift: u32,
-    used: usize,
-    s: &[u8],
-) -> Room
-    requires { ⌜ EquallyLong (now «root_children») (now «root_words») (now keys) (now children) (now words) ⌝ }
-    requires { ⌜ SlotCount (length (now keys)) ⌝ }
-    requires { ⌜ shift ≡ 64 - log2 (length (now keys)) ⌝ }
-    requires { ⌜ IsSome (charsOf (now s)) ⌝ }
-    ensures { λ r. ⌜ r ≡ roomOf used (trieLent «root_children» «root_words» keys children words) (charsOf (was s)) ⌝ }
-{
-    let mut at: usize = 0;
-    let mut place = ParentRef::Root;
-    while at < s.len() {
-        let next = utf8::next_char(s, at);
-        match open_step(root_children, keys, children, shift, place, next.value) {
-            Step::At(child) => {
-                place = child;
-                at += next.width;
-            }
-            Step::Nothing => {
-                return new_steps(root_children, place, next.value, &s[at..]);
-            }
-            Step::Damaged => {
-                return Room::Damaged;
-            }
-        }
-    }
-    Room::Whole(word_at(root_words, words, used, place))
 }

@@ -17,29 +17,37 @@ slice-aggregate-put-answer c = search needs
 put-answer-requires : tie.Need-put-answer-requires
 put-answer-requires c κs = search needs
 
+-- where the call has returned, which says how long the areas are
+abbrev after-load-dict : tie.After-head → tie.After-load-dict
+after-load-dict c =
+    c .before .before .before .before .before .before .before .before .before .before .before .before .before .before .before .before .before .before .before
+
+abbrev after-put-answer : tie.After-head → tie.After-put-answer
+after-put-answer c = c .before .before .before
+
 same-length : tie.Need-same-length
-same-length c = search needs
+same-length c = after-load-dict c .load-dict .kept .1 .0
 
 same-length-2 : tie.Need-same-length-2
-same-length-2 c = search needs
+same-length-2 c = after-load-dict c .load-dict .kept .1 .1 .0
 
 same-length-3 : tie.Need-same-length-3
-same-length-3 c = search needs
+same-length-3 c = after-load-dict c .load-dict .kept .1 .1 .1 .0
 
 same-length-4 : tie.Need-same-length-4
-same-length-4 c = search needs
+same-length-4 c = after-load-dict c .load-dict .kept .1 .1 .1 .1 .0
 
 same-length-5 : tie.Need-same-length-5
-same-length-5 c = search needs
+same-length-5 c = after-load-dict c .load-dict .kept .1 .1 .1 .1 .1 .0
 
 same-length-6 : tie.Need-same-length-6
-same-length-6 c = search needs
+same-length-6 c = after-load-dict c .load-dict .kept .1 .1 .1 .1 .1 .1 .0
 
 same-length-7 : tie.Need-same-length-7
-same-length-7 c = search needs
+same-length-7 c = after-load-dict c .load-dict .kept .1 .1 .1 .1 .1 .1 .1 .0
 
 same-length-8 : tie.Need-same-length-8
-same-length-8 c = search needs
+same-length-8 c = after-put-answer c .put-answer .kept .1 .1 .1 .0
 
 returns : tie.Need-returns
 returns c =

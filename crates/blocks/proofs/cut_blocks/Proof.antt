@@ -114,31 +114,58 @@ is-done-requires : tie.Need-is-done-requires Inv-loop μ-loop
 is-done-requires c κs = search needs
 
 same-length : tie.Need-same-length Inv-loop μ-loop
-same-length c = let cut = cut-done (c .before) in omega (arith, recorded cut .next-recording .kept, test (recorded cut) .loop .inv .0)
+same-length c =
+    let cut = cut-done (c .before) in
+    let run = recorded cut .next-recording .kept in
+    run .1 .1 .1 .0 ∙ test (recorded cut) .loop .inv .0 .long-chars
 
 same-length-2 : tie.Need-same-length-2 Inv-loop μ-loop
-same-length-2 c = let cut = cut-done (c .before) in omega (arith, recorded cut .next-recording .kept, test (recorded cut) .loop .inv .0)
+same-length-2 c =
+    let cut = cut-done (c .before) in
+    let run = recorded cut .next-recording .kept in
+    run .1 .1 .1 .1 .0 ∙ test (recorded cut) .loop .inv .0 .long-offsets
 
 same-length-3 : tie.Need-same-length-3 Inv-loop μ-loop
-same-length-3 c = let cut = cut-done (c .before) in omega (arith, cut .cut-block .kept, test (recorded cut) .loop .inv .0)
+same-length-3 c =
+    let cut = cut-done (c .before) in
+    let areas = cut .cut-block .kept .1 .1 .1 .1 .1 .1 .1 .1 .1 .1 .1 in
+    areas .0 ∙ test (recorded cut) .loop .inv .0 .long-starts
 
 same-length-4 : tie.Need-same-length-4 Inv-loop μ-loop
-same-length-4 c = let cut = cut-done (c .before) in omega (arith, cut .cut-block .kept, test (recorded cut) .loop .inv .0)
+same-length-4 c =
+    let cut = cut-done (c .before) in
+    let areas = cut .cut-block .kept .1 .1 .1 .1 .1 .1 .1 .1 .1 .1 .1 in
+    areas .1 .0 ∙ test (recorded cut) .loop .inv .0 .long-scores
 
 same-length-5 : tie.Need-same-length-5 Inv-loop μ-loop
-same-length-5 c = let cut = cut-done (c .before) in omega (arith, cut .cut-block .kept, test (recorded cut) .loop .inv .0)
+same-length-5 c =
+    let cut = cut-done (c .before) in
+    let areas = cut .cut-block .kept .1 .1 .1 .1 .1 .1 .1 .1 .1 .1 .1 in
+    areas .1 .1 .0 ∙ test (recorded cut) .loop .inv .0 .long-ends
 
 same-length-6 : tie.Need-same-length-6 Inv-loop μ-loop
-same-length-6 c = let cut = cut-done (c .before) in omega (arith, cut .cut-block .kept, test (recorded cut) .loop .inv .0)
+same-length-6 c =
+    let cut = cut-done (c .before) in
+    let areas = cut .cut-block .kept .1 .1 .1 .1 .1 .1 .1 .1 .1 .1 .1 in
+    areas .1 .1 .1 .0 ∙ test (recorded cut) .loop .inv .0 .long-records
 
 same-length-7 : tie.Need-same-length-7 Inv-loop μ-loop
-same-length-7 c = let cut = cut-done (c .before) in omega (arith, cut .cut-block .kept, test (recorded cut) .loop .inv .0)
+same-length-7 c =
+    let cut = cut-done (c .before) in
+    let areas = cut .cut-block .kept .1 .1 .1 .1 .1 .1 .1 .1 .1 .1 .1 in
+    areas .1 .1 .1 .1 .0 ∙ test (recorded cut) .loop .inv .0 .long-edge-ends
 
 same-length-8 : tie.Need-same-length-8 Inv-loop μ-loop
-same-length-8 c = let cut = cut-done (c .before) in omega (arith, cut .cut-block .kept, test (recorded cut) .loop .inv .0)
+same-length-8 c =
+    let cut = cut-done (c .before) in
+    let areas = cut .cut-block .kept .1 .1 .1 .1 .1 .1 .1 .1 .1 .1 .1 in
+    areas .1 .1 .1 .1 .1 .0 ∙ test (recorded cut) .loop .inv .0 .long-edge-records
 
 same-length-9 : tie.Need-same-length-9 Inv-loop μ-loop
-same-length-9 c = let cut = cut-done (c .before) in omega (arith, cut .cut-block .kept, test (recorded cut) .loop .inv .0)
+same-length-9 c =
+    let cut = cut-done (c .before) in
+    let areas = cut .cut-block .kept .1 .1 .1 .1 .1 .1 .1 .1 .1 .1 .1 in
+    areas .1 .1 .1 .1 .1 .1 .1 .0 ∙ test (recorded cut) .loop .inv .0 .long-tokens
 
 returns : tie.Need-returns Inv-loop μ-loop
 returns c =
@@ -168,17 +195,18 @@ loop-again : tie.Need-loop-again Inv-loop μ-loop
 loop-again c =
     let cut = cut-done (c .before .before .before) in
     let l = test (recorded cut) .loop .inv in
-    let kept = recorded cut .next-recording .kept in (
+    let run = recorded cut .next-recording .kept in
+    let areas = cut .cut-block .kept .1 .1 .1 .1 .1 .1 .1 .1 .1 .1 .1 in (
       record {
-        long-chars = omega (arith, kept, l .0);
-        long-offsets = omega (arith, kept, l .0);
-        long-starts = omega (arith, cut .cut-block .kept, l .0);
-        long-scores = omega (arith, cut .cut-block .kept, l .0);
-        long-ends = omega (arith, cut .cut-block .kept, l .0);
-        long-records = omega (arith, cut .cut-block .kept, l .0);
-        long-edge-ends = omega (arith, cut .cut-block .kept, l .0);
-        long-edge-records = omega (arith, cut .cut-block .kept, l .0);
-        long-tokens = omega (arith, cut .cut-block .kept, l .0);
+        long-chars = run .1 .1 .1 .0 ∙ l .0 .long-chars;
+        long-offsets = run .1 .1 .1 .1 .0 ∙ l .0 .long-offsets;
+        long-starts = areas .0 ∙ l .0 .long-starts;
+        long-scores = areas .1 .0 ∙ l .0 .long-scores;
+        long-ends = areas .1 .1 .0 ∙ l .0 .long-ends;
+        long-records = areas .1 .1 .1 .0 ∙ l .0 .long-records;
+        long-edge-ends = areas .1 .1 .1 .1 .0 ∙ l .0 .long-edge-ends;
+        long-edge-records = areas .1 .1 .1 .1 .1 .0 ∙ l .0 .long-edge-records;
+        long-tokens = areas .1 .1 .1 .1 .1 .1 .1 .0 ∙ l .0 .long-tokens;
       },
       goes-behind (l .1) (recorded cut .next-recording .ensures) (cut .cut-block .result) _ (cut .cut-block .ensures)
           (sym (c .before .before .before .is-done .ensures) ∙ not-false _ (c .before .before .if2 .left)) (c .advance .ensures),

@@ -33,26 +33,30 @@ load-lines-requires c κs =
     let sized = short .before in
     (sym (sized .before .is-allowed .ensures) ∙ not-false _ (sized .if1 .left), (shifted .shift-of .ensures, omega (arith, short .if2 .left)))
 
+-- where the call has returned, which says how long the areas are
+abbrev after-load-lines : tie.After-slice-known10 → tie.After-load-lines
+after-load-lines c = c .before .before .before .before .before .before .before .before .before .before .before .before
+
 same-length : tie.Need-same-length
-same-length c = search needs
+same-length c = after-load-lines c .load-lines .kept .1 .0
 
 same-length-2 : tie.Need-same-length-2
-same-length-2 c = search needs
+same-length-2 c = after-load-lines c .load-lines .kept .1 .1 .0
 
 same-length-3 : tie.Need-same-length-3
-same-length-3 c = search needs
+same-length-3 c = after-load-lines c .load-lines .kept .1 .1 .1 .0
 
 same-length-4 : tie.Need-same-length-4
-same-length-4 c = search needs
+same-length-4 c = after-load-lines c .load-lines .kept .1 .1 .1 .1 .0
 
 same-length-5 : tie.Need-same-length-5
-same-length-5 c = search needs
+same-length-5 c = after-load-lines c .load-lines .kept .1 .1 .1 .1 .1 .0
 
 same-length-6 : tie.Need-same-length-6
-same-length-6 c = search needs
+same-length-6 c = after-load-lines c .load-lines .kept .1 .1 .1 .1 .1 .1 .0
 
 same-length-7 : tie.Need-same-length-7
-same-length-7 c = search needs
+same-length-7 c = after-load-lines c .load-lines .kept .1 .1 .1 .1 .1 .1 .1 .0
 
 returns-3 : tie.Need-returns-3
 returns-3 c =

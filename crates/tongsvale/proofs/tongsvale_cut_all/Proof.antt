@@ -28,14 +28,18 @@ cut-all-requires c κs = search needs
 returned-requires : tie.Need-returned-requires
 returned-requires c κs = search needs
 
+-- where the call has returned, which says how long the areas are
+abbrev after-cut-all : tie.After-returned → tie.After-cut-all
+after-cut-all c = c .before .before .before .before .before .before .before
+
 same-length : tie.Need-same-length
-same-length c = search needs
+same-length c = after-cut-all c .cut-all .kept .1 .1 .1 .1 .1 .1 .1 .1 .1 .0
 
 same-length-2 : tie.Need-same-length-2
-same-length-2 c = search needs
+same-length-2 c = after-cut-all c .cut-all .kept .1 .1 .1 .1 .1 .1 .1 .1 .1 .1 .0
 
 same-length-3 : tie.Need-same-length-3
-same-length-3 c = search needs
+same-length-3 c = after-cut-all c .cut-all .kept .1 .1 .1 .1 .1 .1 .1 .1 .1 .1 .1 .0
 
 returns-2 : tie.Need-returns-2
 returns-2 c =

@@ -4,7 +4,7 @@ use mathlib.Core.Path.{_≡_, _∙_}
 use native.Mathlib.Omega.{arith}
 use lib.ListN.{length, length-take}
 use borrow.Author.Needs.{needs}
-use Rattle.frames.specs.Input.{mostKept}
+use Rattle.input_lines.specs.Input.{mostKept}
 use Rattle.cutlines.proofs.input.answer_all.Statement.{statement}
 use Rattle.cutlines.proofs.input.answer_all.Tie as tie
 

@@ -5,7 +5,7 @@ use mathlib.Core.Path.{_≡_, _∙_}
 use native.Mathlib.Omega.{arith}
 use lib.ListN.{length, length-take}
 use borrow.Author.Needs.{needs}
-use Rattle.frames.specs.Input.{mostKept}
+use Rattle.input_lines.specs.Input.{mostKept}
 use Rattle.cutlines.proofs.input.answer_lines.Statement.{statement}
 use Rattle.cutlines.proofs.input.answer_lines.Tie as tie
 

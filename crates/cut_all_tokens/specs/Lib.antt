@@ -1,2 +1,0 @@
--- The definition that the contracts of `cut_all_tokens` cite.
-pub mod Walks

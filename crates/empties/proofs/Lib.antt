@@ -1,0 +1,2 @@
+-- The laws that the functions' proofs, here and in the crate above, cite.
+pub mod Empties

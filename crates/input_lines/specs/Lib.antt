@@ -1,0 +1,3 @@
+-- The definitions that the contract of `take_line` cites, and the claims about them.
+pub mod Input
+pub mod Claims

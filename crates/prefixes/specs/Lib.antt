@@ -1,0 +1,2 @@
+-- The definitions that the contracts of `prefixes` and `sparse_dag` cite.
+pub mod Edges

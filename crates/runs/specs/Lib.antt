@@ -1,0 +1,2 @@
+-- The definitions that the contracts of `runs` cite.
+pub mod Runs

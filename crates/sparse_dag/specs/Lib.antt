@@ -1,2 +1,0 @@
--- The definitions that the contracts of `sparse_dag` cite.
-pub mod Edges

@@ -1,0 +1,4 @@
+-- The laws that the functions' proofs cite.
+pub mod Lookups
+pub mod NewSteps
+pub mod Rooms

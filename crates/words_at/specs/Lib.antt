@@ -1,0 +1,2 @@
+-- The definition that the contract of `words_at` cites.
+pub mod Walks
