@@ -9,47 +9,62 @@ use Rattle.block.proofs.cut_block.Tie as tie
 cut-unmatched-requires : tie.Need-cut-unmatched-requires
 cut-unmatched-requires c κs = search needs
 
+-- where the call has returned, which says how long the areas are
+abbrev after-for-each-prefix-at-every-char : tie.After-enum-told → tie.After-for-each-prefix-at-every-char
+after-for-each-prefix-at-every-char c = c .before .before .before .before .before .before .before .before
+
+abbrev after-for-each-prefix-at-every-char-2 : tie.After-enum-told2 → tie.After-for-each-prefix-at-every-char
+after-for-each-prefix-at-every-char-2 c = c .before .before .before .before .before .before .before .before
+
+abbrev after-for-each-prefix-at-every-char-3 : tie.After-slice-known15 → tie.After-for-each-prefix-at-every-char
+after-for-each-prefix-at-every-char-3 c =
+    c .before .before .before .before .before .before .before .before .before .before .before .before .before .before .before .before .before .before .before
+    .before .before .before .before .before .before .before .before .before
+
+abbrev after-calc : tie.After-slice-known15 → tie.After-calc
+after-calc c = c .before .before .before .before .before .before .before .before .before .before .before .before .before
+
 same-length : tie.Need-same-length
-same-length c = search needs
+same-length c = c .before .before .cut-unmatched .kept .1 .1 .1 .1 .0
 
 same-length-2 : tie.Need-same-length-2
-same-length-2 c = search needs
+same-length-2 c = after-for-each-prefix-at-every-char c .for-each-prefix-at-every-char .kept .1 .1 .1 .1 .1 .1 .1 .1 .1 .0
 
 same-length-3 : tie.Need-same-length-3
-same-length-3 c = search needs
+same-length-3 c = after-for-each-prefix-at-every-char c .for-each-prefix-at-every-char .kept .1 .1 .1 .1 .1 .1 .1 .1 .1 .1 .0
 
 same-length-4 : tie.Need-same-length-4
-same-length-4 c = search needs
+same-length-4 c = after-for-each-prefix-at-every-char c .for-each-prefix-at-every-char .kept .1 .1 .1 .1 .1 .1 .1 .1 .1 .1 .1 .0
 
 same-length-5 : tie.Need-same-length-5
-same-length-5 c = search needs
+same-length-5 c = after-for-each-prefix-at-every-char-2 c .for-each-prefix-at-every-char .kept .1 .1 .1 .1 .1 .1 .1 .1 .1 .0
 
 same-length-6 : tie.Need-same-length-6
-same-length-6 c = search needs
+same-length-6 c = after-for-each-prefix-at-every-char-2 c .for-each-prefix-at-every-char .kept .1 .1 .1 .1 .1 .1 .1 .1 .1 .1 .0
 
 same-length-7 : tie.Need-same-length-7
-same-length-7 c = search needs
+same-length-7 c = after-for-each-prefix-at-every-char-2 c .for-each-prefix-at-every-char .kept .1 .1 .1 .1 .1 .1 .1 .1 .1 .1 .1 .0
 
 same-length-8 : tie.Need-same-length-8
-same-length-8 c = search needs
+same-length-8 c = after-for-each-prefix-at-every-char-3 c .for-each-prefix-at-every-char .kept .1 .1 .1 .1 .1 .1 .1 .1 .1 .0
 
 same-length-9 : tie.Need-same-length-9
-same-length-9 c = search needs
+same-length-9 c = after-calc c .calc .kept .1 .1 .1 .1 .1 .1 .0
 
 same-length-10 : tie.Need-same-length-10
-same-length-10 c = search needs
+same-length-10 c = after-calc c .calc .kept .1 .1 .1 .1 .1 .1 .1 .0
 
 same-length-11 : tie.Need-same-length-11
-same-length-11 c = search needs
+same-length-11 c = after-calc c .calc .kept .1 .1 .1 .1 .1 .1 .1 .1 .0
 
 same-length-12 : tie.Need-same-length-12
-same-length-12 c = search needs
+same-length-12 c = after-for-each-prefix-at-every-char-3 c .for-each-prefix-at-every-char .kept .1 .1 .1 .1 .1 .1 .1 .1 .1 .1 .0
 
 same-length-13 : tie.Need-same-length-13
-same-length-13 c = search needs
+same-length-13 c = after-for-each-prefix-at-every-char-3 c .for-each-prefix-at-every-char .kept .1 .1 .1 .1 .1 .1 .1 .1 .1 .1 .1 .0
 
 same-length-14 : tie.Need-same-length-14
-same-length-14 c = search needs
+same-length-14 c = c .before .before .cut-route .kept .1 .1 .1 .1 .1 .1 .1 .1 .0
 
 -- ---- the places of the code in a block of the class: its test, the walk, the edges that the walk told of, and the route
 

@@ -49,20 +49,27 @@ new-step-requires c κs =
 enum-known-step : tie.Need-enum-known-step Inv-loop μ-loop
 enum-known-step c = search needs
 
+-- where a step was to be made, and the turn in which it was: how long the tables are
+abbrev made : tie.At-match-keys2 Inv-loop μ-loop → tie.After-new-step Inv-loop μ-loop
+made c = c .before .before .before .before .before .before .before .before .before
+
+abbrev turn : tie.After-new-step Inv-loop μ-loop → tie.At-loop Inv-loop μ-loop
+turn c = c .before .before .before .before .before .before .before .before
+
 same-length : tie.Need-same-length Inv-loop μ-loop
-same-length c = search needs
+same-length c = made c .new-step .kept .0 ∙ turn (made c) .loop .inv .long .rootChildren
 
 same-length-2 : tie.Need-same-length-2 Inv-loop μ-loop
-same-length-2 c = search needs
+same-length-2 c = made c .new-step .kept .1 .0 ∙ turn (made c) .loop .inv .long .rootWords
 
 same-length-3 : tie.Need-same-length-3 Inv-loop μ-loop
-same-length-3 c = search needs
+same-length-3 c = made c .new-step .kept .1 .1 .0 ∙ turn (made c) .loop .inv .long .keys
 
 same-length-4 : tie.Need-same-length-4 Inv-loop μ-loop
-same-length-4 c = search needs
+same-length-4 c = made c .new-step .kept .1 .1 .1 .0 ∙ turn (made c) .loop .inv .long .children
 
 same-length-5 : tie.Need-same-length-5 Inv-loop μ-loop
-same-length-5 c = search needs
+same-length-5 c = made c .new-step .kept .1 .1 .1 .1 .0 ∙ turn (made c) .loop .inv .long .words
 
 returns : tie.Need-returns Inv-loop μ-loop
 returns c =
@@ -110,19 +117,19 @@ set-word-requires c κs =
     inside-same _ _ _ _ _ (here .long .rootWords ∙ start .pre .0 .rootLengths) (here .long .words ∙ start .pre .0 .wordLengths) (here .inside)
 
 same-length-6 : tie.Need-same-length-6 Inv-loop μ-loop
-same-length-6 c = search needs
+same-length-6 c = c .before .before .before .before .before .before .loop .inv .long .rootChildren
 
 same-length-7 : tie.Need-same-length-7 Inv-loop μ-loop
-same-length-7 c = search needs
+same-length-7 c = c .before .before .set-word .kept .0 ∙ c .before .before .before .before .before .before .loop .inv .long .rootWords
 
 same-length-8 : tie.Need-same-length-8 Inv-loop μ-loop
-same-length-8 c = search needs
+same-length-8 c = c .before .before .before .before .before .before .loop .inv .long .keys
 
 same-length-9 : tie.Need-same-length-9 Inv-loop μ-loop
-same-length-9 c = search needs
+same-length-9 c = c .before .before .before .before .before .before .loop .inv .long .children
 
 same-length-10 : tie.Need-same-length-10 Inv-loop μ-loop
-same-length-10 c = search needs
+same-length-10 c = c .before .before .set-word .kept .1 .0 ∙ c .before .before .before .before .before .before .loop .inv .long .words
 
 returns-2 : tie.Need-returns-2 Inv-loop μ-loop
 returns-2 c =

@@ -1,5 +1,5 @@
 -- `insert::insert` meets its contract: what `mark` has left to do, `extend` does (`Marks`). Assumes nothing.
-use mathlib.Core.Path.{refl}
+use mathlib.Core.Path.{refl, _∙_}
 use mir.Facts.{toZ-ofZ}
 use borrow.Author.Needs.{needs}
 use Rattle.walk.proofs.Places.{inside-same}
@@ -30,14 +30,26 @@ enum-known-place c = search needs
 enum-told : tie.Need-enum-told
 enum-told c = search needs
 
+-- where the call has returned, which says how long the areas are
+abbrev after-mark : tie.After-enum-told → tie.After-mark
+after-mark c = c .before .before .before .before .before .before .before .before
+
+abbrev after-extend : tie.After-words → tie.After-extend
+after-extend c = c .before .before .before .before .before .before .before .before
+
+abbrev after-mark-2 : tie.After-words → tie.After-mark
+after-mark-2 c =
+    c .before .before .before .before .before .before .before .before .before .before .before .before .before .before .before .before .before .before .before
+    .before .before .before .before
+
 same-length : tie.Need-same-length
-same-length c = search needs
+same-length c = after-mark c .mark .kept .0
 
 same-length-2 : tie.Need-same-length-2
-same-length-2 c = search needs
+same-length-2 c = after-mark c .mark .kept .1 .0
 
 same-length-3 : tie.Need-same-length-3
-same-length-3 c = search needs
+same-length-3 c = after-mark c .mark .kept .1 .1 .0
 
 returns : tie.Need-returns
 returns c = not-inserted _ _ _ _ _ _ _ (marked (c .before .before) .mark .ensures .1 _ _) (c .enum-told .given .1)
@@ -56,19 +68,19 @@ extend-requires c κs =
     )
 
 same-length-4 : tie.Need-same-length-4
-same-length-4 c = search needs
+same-length-4 c = after-extend c .extend .kept .0 ∙ after-mark-2 c .mark .kept .0
 
 same-length-5 : tie.Need-same-length-5
-same-length-5 c = search needs
+same-length-5 c = after-extend c .extend .kept .1 .0
 
 same-length-6 : tie.Need-same-length-6
-same-length-6 c = search needs
+same-length-6 c = after-extend c .extend .kept .1 .1 .0 ∙ after-mark-2 c .mark .kept .1 .0
 
 same-length-7 : tie.Need-same-length-7
-same-length-7 c = search needs
+same-length-7 c = after-extend c .extend .kept .1 .1 .1 .0 ∙ after-mark-2 c .mark .kept .1 .1 .0
 
 same-length-8 : tie.Need-same-length-8
-same-length-8 c = search needs
+same-length-8 c = after-extend c .extend .kept .1 .1 .1 .1 .0
 
 returns-2 : tie.Need-returns-2
 returns-2 c =

@@ -1,5 +1,6 @@
 -- `insert::new_step` meets its contract: the root's entry, or the empty slot that is found before the place gains its bits, are the cases of `newStep`
 -- (`NewSteps`). The slot is still inside the tables after the bits are set, which keeps their lengths. Assumes nothing.
+use mathlib.Core.Path.{refl, _∙_}
 use native.Mathlib.Omega.{arith}
 use borrow.Author.Needs.{needs}
 use Rattle.walk.proofs.Places.{inside-same, has-entry, node-below}
@@ -33,11 +34,21 @@ from-root-requires c κs = search needs
 new-root-entry-requires : tie.Need-new-root-entry-requires
 new-root-entry-requires c κs = (has-entry _ _ _ _ (at-root c .before .from-root .ensures) (at-root c .if1 .taken), search needs)
 
+-- where the call has returned, which says how long the areas are
+abbrev after-new-root-entry : tie.After-root-words → tie.After-new-root-entry
+after-new-root-entry c = c .before .before .before
+
+abbrev after-set-bits : tie.After-words → tie.After-set-bits
+after-set-bits c = c .before .before .before .before .before .before .before .before .before .before .before .before .before .before .before
+
+abbrev after-new-slot : tie.After-words → tie.After-new-slot
+after-new-slot c = c .before .before .before .before .before
+
 same-length : tie.Need-same-length
-same-length c = search needs
+same-length c = after-new-root-entry c .new-root-entry .kept .0
 
 same-length-2 : tie.Need-same-length-2
-same-length-2 c = search needs
+same-length-2 c = after-new-root-entry c .new-root-entry .kept .1 .0
 
 returns : tie.Need-returns
 returns c =
@@ -58,13 +69,13 @@ enum-known-i : tie.Need-enum-known-i
 enum-known-i c = search needs
 
 same-length-3 : tie.Need-same-length-3
-same-length-3 c = search needs
+same-length-3 c = refl
 
 same-length-4 : tie.Need-same-length-4
-same-length-4 c = search needs
+same-length-4 c = refl
 
 same-length-5 : tie.Need-same-length-5
-same-length-5 c = search needs
+same-length-5 c = refl
 
 returns-2 : tie.Need-returns-2
 returns-2 c =
@@ -86,16 +97,16 @@ new-slot-requires c κs =
     (omega (arith, kept), (omega (arith, kept, sizes), omega (arith, kept, sizes)))
 
 same-length-6 : tie.Need-same-length-6
-same-length-6 c = search needs
+same-length-6 c = after-set-bits c .set-bits .kept .0
 
 same-length-7 : tie.Need-same-length-7
-same-length-7 c = search needs
+same-length-7 c = after-new-slot c .new-slot .kept .0 ∙ after-set-bits c .set-bits .kept .1 .0
 
 same-length-8 : tie.Need-same-length-8
-same-length-8 c = search needs
+same-length-8 c = after-new-slot c .new-slot .kept .1 .0 ∙ after-set-bits c .set-bits .kept .1 .1 .0
 
 same-length-9 : tie.Need-same-length-9
-same-length-9 c = search needs
+same-length-9 c = after-new-slot c .new-slot .kept .1 .1 .0
 
 returns-3 : tie.Need-returns-3
 returns-3 c =

@@ -1,6 +1,7 @@
 -- `load_lines::load_lines` meets its contract. The loop's invariant, `Loading`: the areas are as long as they were, and what the lines from the position on
 -- come to is what the whole text comes to. The measure is what is left of the text, and one for the line's end. Assumes nothing.
 use Prim.Native.Nat.{_+_, _-_, _≤_}
+use mathlib.Core.Path.{_∙_}
 use native.Mathlib.Omega.{arith}
 use lib.ListN.{length}
 use borrow.Author.Needs.{needs}
@@ -74,25 +75,25 @@ is-done-requires : tie.Need-is-done-requires Inv-loop μ-loop
 is-done-requires c κs = search needs
 
 same-length : tie.Need-same-length Inv-loop μ-loop
-same-length c = search needs
+same-length c = entered (c .before) .load-line .kept .1 .0 ∙ turn (ended (entered (c .before) .before .before)) .loop .inv .long .tables .rootChildren
 
 same-length-2 : tie.Need-same-length-2 Inv-loop μ-loop
-same-length-2 c = search needs
+same-length-2 c = entered (c .before) .load-line .kept .1 .1 .0 ∙ turn (ended (entered (c .before) .before .before)) .loop .inv .long .tables .rootWords
 
 same-length-3 : tie.Need-same-length-3 Inv-loop μ-loop
-same-length-3 c = search needs
+same-length-3 c = entered (c .before) .load-line .kept .1 .1 .1 .0 ∙ turn (ended (entered (c .before) .before .before)) .loop .inv .long .tables .keys
 
 same-length-4 : tie.Need-same-length-4 Inv-loop μ-loop
-same-length-4 c = search needs
+same-length-4 c = entered (c .before) .load-line .kept .1 .1 .1 .1 .0 ∙ turn (ended (entered (c .before) .before .before)) .loop .inv .long .tables .children
 
 same-length-5 : tie.Need-same-length-5 Inv-loop μ-loop
-same-length-5 c = search needs
+same-length-5 c = entered (c .before) .load-line .kept .1 .1 .1 .1 .1 .0 ∙ turn (ended (entered (c .before) .before .before)) .loop .inv .long .tables .words
 
 same-length-6 : tie.Need-same-length-6 Inv-loop μ-loop
-same-length-6 c = search needs
+same-length-6 c = entered (c .before) .load-line .kept .1 .1 .1 .1 .1 .1 .0 ∙ turn (ended (entered (c .before) .before .before)) .loop .inv .long .frequencies
 
 same-length-7 : tie.Need-same-length-7 Inv-loop μ-loop
-same-length-7 c = search needs
+same-length-7 c = entered (c .before) .load-line .kept .1 .1 .1 .1 .1 .1 .1 .0 ∙ turn (ended (entered (c .before) .before .before)) .loop .inv .long .logarithms
 
 returns : tie.Need-returns Inv-loop μ-loop
 returns c =
@@ -118,25 +119,25 @@ loop-again c =
     (kept-long _ _ (answer .load-line .kept))
 
 same-length-8 : tie.Need-same-length-8 Inv-loop μ-loop
-same-length-8 c = search
+same-length-8 c = c .before .loop .inv .long .tables .rootChildren
 
 same-length-9 : tie.Need-same-length-9 Inv-loop μ-loop
-same-length-9 c = search
+same-length-9 c = c .before .loop .inv .long .tables .rootWords
 
 same-length-10 : tie.Need-same-length-10 Inv-loop μ-loop
-same-length-10 c = search
+same-length-10 c = c .before .loop .inv .long .tables .keys
 
 same-length-11 : tie.Need-same-length-11 Inv-loop μ-loop
-same-length-11 c = search
+same-length-11 c = c .before .loop .inv .long .tables .children
 
 same-length-12 : tie.Need-same-length-12 Inv-loop μ-loop
-same-length-12 c = search
+same-length-12 c = c .before .loop .inv .long .tables .words
 
 same-length-13 : tie.Need-same-length-13 Inv-loop μ-loop
-same-length-13 c = search
+same-length-13 c = c .before .loop .inv .long .frequencies
 
 same-length-14 : tie.Need-same-length-14 Inv-loop μ-loop
-same-length-14 c = search
+same-length-14 c = c .before .loop .inv .long .logarithms
 
 returns-2 : tie.Need-returns-2 Inv-loop μ-loop
 returns-2 c = ends (c .before .loop .inv) (c .loop-test .left)

@@ -35,26 +35,49 @@ fill-u32-requires-3 c κs = search needs
 fill-f64-requires : tie.Need-fill-f64-requires
 fill-f64-requires c κs = search needs
 
+-- where the call has returned, which says how long the areas are
+abbrev after-fill-u32 : tie.After-slice-known10 → tie.After-fill-u32
+after-fill-u32 c =
+    c .before .before .before .before .before .before .before .before .before .before .before .before .before .before .before .before .before .before .before
+    .before .before .before .before .before
+
+abbrev after-fill-no-word : tie.After-slice-known10 → tie.After-fill-no-word
+after-fill-no-word c =
+    c .before .before .before .before .before .before .before .before .before .before .before .before .before .before .before .before .before .before .before
+    .before
+
+abbrev after-fill-u64 : tie.After-slice-known10 → tie.After-fill-u64
+after-fill-u64 c = c .before .before .before .before .before .before .before .before .before .before .before .before .before .before .before .before .before
+
+abbrev after-fill-u322 : tie.After-slice-known10 → tie.After-fill-u322
+after-fill-u322 c = c .before .before .before .before .before .before .before .before .before .before .before .before .before
+
+abbrev after-fill-no-word2 : tie.After-slice-known10 → tie.After-fill-no-word2
+after-fill-no-word2 c = c .before .before .before .before .before .before .before .before .before
+
+abbrev after-fill-u323 : tie.After-slice-known10 → tie.After-fill-u323
+after-fill-u323 c = c .before .before .before .before .before .before
+
 same-length : tie.Need-same-length
-same-length c = search needs
+same-length c = after-fill-u32 c .fill-u32 .kept .0
 
 same-length-2 : tie.Need-same-length-2
-same-length-2 c = search needs
+same-length-2 c = after-fill-no-word c .fill-no-word .kept .0
 
 same-length-3 : tie.Need-same-length-3
-same-length-3 c = search needs
+same-length-3 c = after-fill-u64 c .fill-u64 .kept .0
 
 same-length-4 : tie.Need-same-length-4
-same-length-4 c = search needs
+same-length-4 c = after-fill-u322 c .fill-u322 .kept .0
 
 same-length-5 : tie.Need-same-length-5
-same-length-5 c = search needs
+same-length-5 c = after-fill-no-word2 c .fill-no-word2 .kept .0
 
 same-length-6 : tie.Need-same-length-6
-same-length-6 c = search needs
+same-length-6 c = after-fill-u323 c .fill-u323 .kept .0
 
 same-length-7 : tie.Need-same-length-7
-same-length-7 c = search needs
+same-length-7 c = c .before .before .fill-f64 .kept .0
 
 returns-2 : tie.Need-returns-2
 unfolding ofBits ofInt floatOf
