@@ -1,4 +1,4 @@
--- `trie::char_trie::first_empty` meets its contract. The loop's invariant: i is a slot, and the search of the slots left, from i on, ends as the
+-- `char_trie::first_empty` meets its contract. The loop's invariant: i is a slot, and the search of the slots left, from i on, ends as the
 -- whole search does. Each turn is a law of `Probes`. Assumes nothing.
 use mathlib.Core.Path.{_≡_}
 use Prim.Native.Nat.{_<_}

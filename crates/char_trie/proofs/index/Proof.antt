@@ -1,4 +1,4 @@
--- `trie::char_trie::index` meets its contract: the product is that of `wrapping_mul_u64`. Assumes nothing.
+-- `char_trie::index` meets its contract: the product is that of `wrapping_mul_u64`. Assumes nothing.
 use borrow.Author.Needs.{needs}
 use Rattle.char_trie.proofs.index.Statement.{statement}
 use Rattle.char_trie.proofs.index.Tie as tie

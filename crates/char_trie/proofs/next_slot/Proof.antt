@@ -1,4 +1,4 @@
--- `trie::char_trie::next_slot` meets its contract. Assumes nothing.
+-- `char_trie::next_slot` meets its contract. Assumes nothing.
 use borrow.Author.Needs.{needs}
 use Rattle.trie.proofs.Slots.{next-wraps, next-goes-on}
 use Rattle.char_trie.proofs.next_slot.Statement.{statement}

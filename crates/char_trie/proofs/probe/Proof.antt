@@ -1,4 +1,4 @@
--- `trie::char_trie::probe` meets its contract. The loop's invariant: i is a slot, a slot is left, and the probe of the slots left, from i on, ends
+-- `char_trie::probe` meets its contract. The loop's invariant: i is a slot, a slot is left, and the probe of the slots left, from i on, ends
 -- as the whole probe does. Each turn is a law of `Probes`. Assumes nothing.
 use mathlib.Core.Path.{_≡_}
 use Prim.Native.Nat.{_<_}

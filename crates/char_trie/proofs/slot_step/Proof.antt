@@ -1,4 +1,4 @@
--- `trie::char_trie::slot_step` meets its contract: each end of the probe is the step that `stepByProbe` makes of it (`Steps`). Assumes nothing.
+-- `char_trie::slot_step` meets its contract: each end of the probe is the step that `stepByProbe` makes of it (`Steps`). Assumes nothing.
 use borrow.Author.Needs.{needs}
 use Rattle.trie.proofs.Steps.{slot-found, slot-empty, slot-endless}
 use Rattle.char_trie.proofs.slot_step.Statement.{statement}

@@ -1,4 +1,4 @@
--- `trie::char_trie::step` meets its contract: the two tests of bits, then the step among the slots, are those of `stepFrom` (`Steps`). Assumes nothing.
+-- `char_trie::step` meets its contract: the two tests of bits, then the step among the slots, are those of `stepFrom` (`Steps`). Assumes nothing.
 use borrow.Author.Needs.{needs}
 use Rattle.trie.proofs.Steps.{key-bit-below, child-bit-below, key-bit-missing, child-bit-missing, bits-there}
 use Rattle.char_trie.proofs.step.Statement.{statement}
