@@ -1,14 +1,12 @@
--- Reading, by the bytes that the code tests. A lead byte and the tests of the bytes after it either spell a scalar value, whose encoding they are, or
--- leave no value whose encoding they could be.
+-- Reading without tests, in a text that is known to be well formed. What stands at a position of it is the encoding of a scalar value, so the lead byte says
+-- how many bytes there are, and they spell the value and what marks the bytes.
 -- Assumes nothing.
 use mathlib.Core.Path.{_≡_, refl, sym, ap, _∙_}
-use mathlib.Core.Bool.{Bool, true, false}
 use mathlib.Core.Logic.{_⊎_, inl, inr}
 use mathlib.Core.List.{List, [], _∷_, _++_}
 use mathlib.Core.Option.{IsSome}
-use Prim.Native.Nat.{ℕ, zero, suc, _+_, _-_, _*_, _/_, _%_, _≤_, _<_}
+use Prim.Native.Nat.{ℕ, suc, _+_, _-_, _*_, _/_, _%_, _≤_, _<_}
 use native.Mathlib.Omega.{arith}
-use native.Mathlib.Numerals.{add-one, add-two, add-three, add-four}
 use lib.ListN.{length, getD, drop, length-drop}
 use lib.Seq.{drop-cons, getD-drop}
 use Rattle.utf8.specs.declared.Character.{Character}
@@ -16,8 +14,7 @@ use Rattle.utf8.specs.declared.Character.the-variants.{Char, Malformed, 
 use Rattle.utf8.specs.Characters.{readFrom, characterAt}
 use Rattle.utf8.specs.Encoding.{Scalar, encode}
 use Rattle.utf8.specs.Text.{charsFrom}
-use Rattle.utf8.specs.Tails.{Tail, TailAt}
-use Rattle.utf8.proofs.Encodings.{below, digits-3, digits-4, encode-1, encode-2, encode-3, encode-4, reads-encodings, reads-only-encodings}
+use Rattle.utf8.proofs.Encodings.{below, digits-3, digits-4, encode-1, encode-2, encode-3, encode-4, reads-only-encodings}
 use Rattle.utf8.proofs.Texts.{end-nil, chars-malformed}
 
 -- ---- what an encoding of two, three or four bytes makes of a lead byte and the bytes after it
@@ -95,20 +92,6 @@ module _ (P : Type 0) (b0 : ℕ) (bs : List ℕ) (c : ℕ) (rest : List ℕ) (e 
   by-width : Scalar c → P
   by-width s = by-range s (below c 0x80) (below c 0x800) (below c 0x10000)
 
--- where no value's encoding begins the bytes, they are malformed
-module _ (b0 : ℕ) (bs : List ℕ) (high : 0x80 ≤ b0) (not-two : (c : ℕ) → Two b0 bs c → ⊥) (not-three : (c : ℕ) → Three b0 bs c → ⊥)
-    (not-four : (c : ℕ) → Four b0 bs c → ⊥) where
-  pub malformed : Malformed ≡ readFrom (b0 ∷ bs)
-  malformed = go (readFrom (b0 ∷ bs)) refl
-    where
-      go : (r : Character) → readFrom (b0 ∷ bs) ≡ r → Malformed ≡ readFrom (b0 ∷ bs)
-      go (Char c w) e =
-          let q = reads-only-encodings (b0 ∷ bs) c w e in
-          absurd (by-width ⊥ b0 bs c (drop w (b0 ∷ bs)) (q .2) (λ l same n. omega arith) (λ t n. not-two c t) (λ t n. not-three c t)
-          (λ t n. not-four c t) (q .0))
-      go Malformed e = sym e
-      go End e = let n : b0 ∷ bs ≡ [] = end-nil (b0 ∷ bs) e in let z : _≡_ {A = ℕ} 0 1 = cc in absurd (omega arith)
-
 -- the bytes of an encoding, six bits after six bits, spell the value and what marks the bytes
 module _ (b0 : ℕ) (bs : List ℕ) (x : ℕ) where
   pub spelled-2 : Two b0 bs x → b0 * 0x40 + getD bs 0 0 ≡ x + 0x3080
@@ -119,156 +102,6 @@ module _ (b0 : ℕ) (bs : List ℕ) (x : ℕ) where
 
   pub spelled-4 : Four b0 bs x → ((b0 * 0x40 + getD bs 0 0) * 0x40 + getD bs 1 0) * 0x40 + getD bs 2 0 ≡ x + 0x3C82080
   spelled-4 t = rw (t .lead, t .second, t .third, t .fourth) (omega (arith, digits-4 x))
-
--- ---- where they spell a scalar value, that is read, whatever follows
-
-by-encoding : (c w : ℕ) (e rest : List ℕ) → Scalar c → encode c ≡ e → length e ≡ w → Char c w ≡ readFrom (e ++ rest)
-by-encoding c w e rest s p l =
-    sym (ap (λ (x : List ℕ). readFrom (x ++ rest)) (sym p) ∙ reads-encodings c rest s ∙ ap (λ (x : List ℕ). Char c (length x)) p ∙ ap (Char c) l)
-
-pub char-1 : (b0 : ℕ) (rest : List ℕ) → b0 < 0x80 → Char b0 1 ≡ readFrom (b0 ∷ rest)
-char-1 b0 rest h = by-encoding b0 1 (b0 ∷ []) rest (inl (omega arith)) (encode-1 b0 h) refl
-
--- two bytes
-module _ (b0 b1 c : ℕ) (rest : List ℕ) (t1 : Tail b1) (lead : (0x80 ≤ b0) × (b0 < 0xE0)) (e : c ≡ b0 * 0x40 + b1) where
-  pub overlong-2 : c < 0x3100 → Malformed ≡ readFrom (b0 ∷ b1 ∷ rest)
-  overlong-2 z =
-      malformed b0 (b1 ∷ rest) (lead .0)
-      (λ x t. omega (arith, spelled-2 b0 (b1 ∷ rest) x t, t .from))
-      (λ x t. omega (arith, t .lead))
-      (λ x t. omega (arith, t .lead))
-
-  pub char-2 : (v : ℕ) → v + 0x3080 ≡ c → 0x3100 ≤ c → Char v 2 ≡ readFrom (b0 ∷ b1 ∷ rest)
-  char-2 v q o =
-      let x : 0xC0 + v / 0x40 ≡ b0 = omega arith in
-      let y : 0x80 + v % 0x40 ≡ b1 = omega arith in
-      by-encoding v 2 (b0 ∷ b1 ∷ []) rest (inl (omega arith)) (encode-2 v (omega arith) (omega arith) ∙ rw (x, y)) refl
-
--- three bytes
-module _ (b0 b1 b2 c : ℕ) (rest : List ℕ) (t1 : Tail b1) (t2 : Tail b2) (lead : (0xE0 ≤ b0) × (b0 < 0xF0)) (e : c ≡ (b0 * 0x40 + b1) * 0x40 + b2)
-    (v : ℕ) (q : v + 0xE2080 ≡ c) where
-  refused-3 : ((x : ℕ) → 0x800 ≤ x → (x / 0x800 ≡ 27 → ⊥) → v ≡ x → ⊥) → Malformed ≡ readFrom (b0 ∷ b1 ∷ b2 ∷ rest)
-  refused-3 f =
-      malformed b0 (b1 ∷ b2 ∷ rest) (omega arith)
-      (λ x t. omega (arith, t .lead, t .to))
-      (λ x t. f x (t .from) (t .whole) (omega (arith, spelled-3 b0 (b1 ∷ b2 ∷ rest) x t)))
-      (λ x t. omega (arith, t .lead))
-
-  pub overlong-3 : v / 0x800 ≡ 0 → Malformed ≡ readFrom (b0 ∷ b1 ∷ b2 ∷ rest)
-  overlong-3 z = refused-3 (λ x f w p. omega arith)
-
-  pub surrogate-3 : v / 0x800 ≡ 27 → Malformed ≡ readFrom (b0 ∷ b1 ∷ b2 ∷ rest)
-  surrogate-3 z = refused-3 (λ x f w p. w (ap (λ (y : ℕ). y / 0x800) (sym p) ∙ z))
-
-  pub char-3 : (v / 0x800 ≡ 0 → ⊥) → (v / 0x800 ≡ 27 → ⊥) → Char v 3 ≡ readFrom (b0 ∷ b1 ∷ b2 ∷ rest)
-  char-3 o s =
-      let x : 0xE0 + v / 0x1000 ≡ b0 = omega arith in
-      let y : 0x80 + v / 0x40 % 0x40 ≡ b1 = omega arith in
-      let z : 0x80 + v % 0x40 ≡ b2 = omega arith in
-      by-encoding v 3 (b0 ∷ b1 ∷ b2 ∷ []) rest (off (below v 0xD800)) (encode-3 v (omega arith) (omega arith) ∙ rw (x, y, z)) refl
-    where
-      off : (v < 0xD800) ⊎ (0xD800 ≤ v) → Scalar v
-      off (inl y) = inl y
-      off (inr y) = inr (omega arith, omega arith)
-
--- four bytes
-module _ (b0 b1 b2 b3 c : ℕ) (rest : List ℕ) (t1 : Tail b1) (t2 : Tail b2) (t3 : Tail b3) (lead : 0xF0 ≤ b0)
-    (e : c ≡ ((b0 * 0x40 + b1) * 0x40 + b2) * 0x40 + b3) (v : ℕ) (q : v + 0x3C82080 ≡ c) where
-  refused-4 : ((x : ℕ) → 0x10000 ≤ x → x ≤ 0x10FFFF → v ≡ x → ⊥) → Malformed ≡ readFrom (b0 ∷ b1 ∷ b2 ∷ b3 ∷ rest)
-  refused-4 f =
-      malformed b0 (b1 ∷ b2 ∷ b3 ∷ rest) (omega arith)
-      (λ x t. omega (arith, t .lead, t .to))
-      (λ x t. omega (arith, t .lead, t .to))
-      (λ x t. f x (t .from) (t .to) (omega (arith, spelled-4 b0 (b1 ∷ b2 ∷ b3 ∷ rest) x t)))
-
-  pub overlong-4 : v < 0x10000 → Malformed ≡ readFrom (b0 ∷ b1 ∷ b2 ∷ b3 ∷ rest)
-  overlong-4 z = refused-4 (λ x f t p. omega arith)
-
-  pub beyond-4 : 0x10FFFF < v → Malformed ≡ readFrom (b0 ∷ b1 ∷ b2 ∷ b3 ∷ rest)
-  beyond-4 z = refused-4 (λ x f t p. omega arith)
-
-  pub char-4 : 0x10000 ≤ v → v ≤ 0x10FFFF → Char v 4 ≡ readFrom (b0 ∷ b1 ∷ b2 ∷ b3 ∷ rest)
-  char-4 o s =
-      let x : 0xF0 + v / 0x40000 ≡ b0 = omega arith in
-      let y : 0x80 + v / 0x1000 % 0x40 ≡ b1 = omega arith in
-      let z : 0x80 + v / 0x40 % 0x40 ≡ b2 = omega arith in
-      let u : 0x80 + v % 0x40 ≡ b3 = omega arith in
-      by-encoding v 4 (b0 ∷ b1 ∷ b2 ∷ b3 ∷ []) rest (inr (omega arith, s)) (encode-4 v o ∙ rw (x, y, z, u)) refl
-
--- ---- the same at a position of a text
-
-module _ (s : List ℕ) (at b0 : ℕ) (e0 : b0 ≡ getD s at 0) where
-  from-1 : at < length s → drop at s ≡ b0 ∷ drop (suc at) s
-  from-1 h = drop-cons s at 0 h ∙ rw (← e0)
-
-  pub at-1 : at < length s → b0 < 0x80 → Char b0 1 ≡ characterAt s at
-  unfolding characterAt
-  at-1 h l = char-1 b0 (drop (suc at) s) l ∙ ap readFrom (sym (from-1 h))
-
-  -- a byte after the first that an encoding asks for is a tail within the text
-  asked : (i j k : ℕ) → j ≡ suc at + i → suc i ≤ length (drop (suc at) s) → getD (drop (suc at) s) i 0 ≡ 0x80 + k % 0x40 → (j < length s) × Tail (getD s j 0)
-  asked i j k e room is =
-      let same : getD s j 0 ≡ 0x80 + k % 0x40 = rw e (sym (getD-drop (suc at) s i 0) ∙ is) in
-      (omega (arith, length-drop (suc at) s), rw same (omega arith, omega arith))
-
-  -- so where there is none, nothing is encoded
-  module _ (h : at < length s) (r : ℕ) (none : r ≡ 0) where
-    pub no-second : TailAt s (at + 1) r → 0x80 ≤ b0 → Malformed ≡ characterAt s at
-    unfolding characterAt
-    no-second t high =
-        malformed b0 (drop (suc at) s) high
-        (λ c x. refused c (x .room) (x .second))
-        (λ c x. refused (c / 0x40) (omega (arith, x .room)) (x .second))
-        (λ c x. refused (c / 0x1000) (omega (arith, x .room)) (x .second))
-        ∙ ap readFrom (sym (from-1 h))
-      where
-        refused : (k : ℕ) → 1 ≤ length (drop (suc at) s) → getD (drop (suc at) s) 0 0 ≡ 0x80 + k % 0x40 → ⊥
-        refused k room is = let p = asked 0 (at + 1) k (omega arith) room is in t .missing none (p .0) (p .1)
-
-    pub no-third : TailAt s (at + 2) r → 0xE0 ≤ b0 → Malformed ≡ characterAt s at
-    unfolding characterAt
-    no-third t high =
-        malformed b0 (drop (suc at) s) (omega arith)
-        (λ c x. omega (arith, x .lead, x .to))
-        (λ c x. refused c (x .room) (x .third))
-        (λ c x. refused (c / 0x40) (omega (arith, x .room)) (x .third))
-        ∙ ap readFrom (sym (from-1 h))
-      where
-        refused : (k : ℕ) → 2 ≤ length (drop (suc at) s) → getD (drop (suc at) s) 1 0 ≡ 0x80 + k % 0x40 → ⊥
-        refused k room is = let p = asked 1 (at + 2) k (omega arith) room is in t .missing none (p .0) (p .1)
-
-    pub no-fourth : TailAt s (at + 3) r → 0xF0 ≤ b0 → Malformed ≡ characterAt s at
-    unfolding characterAt
-    no-fourth t high =
-        malformed b0 (drop (suc at) s) (omega arith)
-        (λ c x. omega (arith, x .lead, x .to))
-        (λ c x. omega (arith, x .lead, x .to))
-        (λ c x. let p = asked 2 (at + 3) c (omega arith) (x .room) (x .fourth) in t .missing none (p .0) (p .1))
-        ∙ ap readFrom (sym (from-1 h))
-
-  module _ (b1 : ℕ) (e1 : b1 ≡ getD s (at + 1) 0) where
-    from-2 : at + 1 < length s → drop at s ≡ b0 ∷ b1 ∷ drop (at + 2) s
-    from-2 h = from-1 (omega arith) ∙ rw (add-two, e1, add-one) (ap (λ (x : List ℕ). b0 ∷ x) (drop-cons s (suc at) 0 (omega arith)))
-
-    pub at-2 : (r : Character) → at + 1 < length s → ((rest : List ℕ) → r ≡ readFrom (b0 ∷ b1 ∷ rest)) → r ≡ characterAt s at
-    unfolding characterAt
-    at-2 r h q = q (drop (at + 2) s) ∙ ap readFrom (sym (from-2 h))
-
-    module _ (b2 : ℕ) (e2 : b2 ≡ getD s (at + 2) 0) where
-      from-3 : at + 2 < length s → drop at s ≡ b0 ∷ b1 ∷ b2 ∷ drop (at + 3) s
-      from-3 h = from-2 (omega arith) ∙ rw (add-three, e2, add-two) (ap (λ (x : List ℕ). b0 ∷ b1 ∷ x) (drop-cons s (suc (suc at)) 0 (omega arith)))
-
-      pub at-3 : (r : Character) → at + 2 < length s → ((rest : List ℕ) → r ≡ readFrom (b0 ∷ b1 ∷ b2 ∷ rest)) → r ≡ characterAt s at
-      unfolding characterAt
-      at-3 r h q = q (drop (at + 3) s) ∙ ap readFrom (sym (from-3 h))
-
-      pub at-4 : (b3 : ℕ) (r : Character) → b3 ≡ getD s (at + 3) 0 → at + 3 < length s → ((rest : List ℕ) → r ≡ readFrom (b0 ∷ b1 ∷ b2 ∷ b3 ∷ rest))
-          → r ≡ characterAt s at
-      unfolding characterAt
-      at-4 b3 r e3 h q =
-          let from-4 : drop at s ≡ b0 ∷ b1 ∷ b2 ∷ b3 ∷ drop (at + 4) s =
-          from-3 (omega arith) ∙ rw (add-four, e3, add-three) (ap (λ (x : List ℕ). b0 ∷ b1 ∷ b2 ∷ x) (drop-cons s (suc (suc (suc at))) 0 (omega arith))) in
-          q (drop (at + 4) s) ∙ ap readFrom (sym from-4)
 
 -- ---- a text that is known to be well formed: its first byte says how many there are, and they spell the value
 
@@ -293,7 +126,7 @@ module _ (s : List ℕ) (at : ℕ) (within : at < length s) (some-chars : IsSome
         go (Char c w) e =
             let q = reads-only-encodings (drop at s) c w e in
             let sized : (n : ℕ) → length (encode c) ≡ n → characterAt s at ≡ Char c n = λ n l. e ∙ ap (Char c) (sym (q .1) ∙ l) in
-            by-width P b0 later c (drop w (drop at s)) (q .2 ∙ from-1 s at b0 e0 within)
+            by-width P b0 later c (drop w (drop at s)) (q .2 ∙ drop-cons s at 0 within ∙ rw (← e0))
             (λ l same n. one (omega arith) (sized 1 n ∙ ap (λ (x : ℕ). Char x 1) same))
             (λ t n. two c t (sized 2 n))
             (λ t n. three c t (sized 3 n))

@@ -46,11 +46,11 @@ abbrev Encodes : List ℕ → ℕ → ℕ → Type 0
 Encodes bs c w = Scalar c × (length (encode c) ≡ w) × (encode c ++ drop w bs ≡ bs)
 
 -- each part of a test that holds
-both : (x y : Bool) → T (x && y) → T x × T y
+pub both : (x y : Bool) → T (x && y) → T x × T y
 both true y h = (tt, h)
 both false y h = absurd h
 
-octet : (r : Octets) (b : ℕ) (y : Bool) → T (leb (r .first) b && leb b (r .last) && y) → (r .first ≤ b) × (b ≤ r .last) × T y
+pub octet : (r : Octets) (b : ℕ) (y : Bool) → T (leb (r .first) b && leb b (r .last) && y) → (r .first ≤ b) × (b ≤ r .last) × T y
 octet r b y h =
     let p = both (leb (r .first) b && leb b (r .last)) y h in
     let q = both (leb (r .first) b) (leb b (r .last)) (p .0) in
@@ -207,12 +207,12 @@ reads-only-encodings (b ∷ bs) c w e = sound-by sequences all-sound (b ∷ bs) 
 -- ---- a scalar value's encoding is read
 
 -- the lead octets of these sequences are all below m
-abbrev leadsBelow : List (List Octets) → ℕ → Bool
+abbrev pub leadsBelow : List (List Octets) → ℕ → Bool
 leadsBelow [] m = true
 leadsBelow ([] ∷ rest) m = false
 leadsBelow ((r ∷ rs) ∷ rest) m = ltb (r .last) m && leadsBelow rest m
 
-no-lead : (r : Octets) (rs : List Octets) (a : ℕ) (bs : List ℕ) → r .last < a → startsWith (r ∷ rs) (a ∷ bs) ≡ false
+pub no-lead : (r : Octets) (rs : List Octets) (a : ℕ) (bs : List ℕ) → r .last < a → startsWith (r ∷ rs) (a ∷ bs) ≡ false
 no-lead r rs a bs h = rw (lt-leb a (r .last) h) (refused (leb (r .first) a) (startsWith rs bs))
   where
     refused : (x y : Bool) → (x && false && y) ≡ false
@@ -220,7 +220,7 @@ no-lead r rs a bs h = rw (lt-leb a (r .last) h) (refused (leb (r .first) a) (sta
     refused false y = refl
 
 -- so from a lead octet of at least m on they are passed over
-passed : (rows rest : List (List Octets)) (m a : ℕ) (bs : List ℕ) → T (leadsBelow rows m) → m ≤ a → readBy (rows ++ rest) (a ∷ bs) ≡ readBy rest (a ∷ bs)
+pub passed : (rows rest : List (List Octets)) (m a : ℕ) (bs : List ℕ) → T (leadsBelow rows m) → m ≤ a → readBy (rows ++ rest) (a ∷ bs) ≡ readBy rest (a ∷ bs)
 passed [] rest m a bs h l = refl
 passed ([] ∷ rows) rest m a bs h l = absurd h
 passed ((r ∷ rs) ∷ rows) rest m a bs h l =
@@ -322,7 +322,7 @@ reads-4 n a b c d bs l h ea eb ec ed (inr x) (inr y) =
     read-4 (take 8 sequences) (drop 9 sequences) (octets 0xF4 0xF4) (octets 0x80 0x8F) a b c d n bs tt
     (value-4 n a b c d h ea eb ec ed) (omega arith) (omega arith) (omega arith) (omega arith) (omega arith) (omega arith) (omega arith) (omega arith)
 
-reads-1 : (n : ℕ) (bs : List ℕ) → n < 0x80 → readBy sequences (n ∷ bs) ≡ Char n 1
+pub reads-1 : (n : ℕ) (bs : List ℕ) → n < 0x80 → readBy sequences (n ∷ bs) ≡ Char n 1
 reads-1 n bs h = taken (octets 0x00 0x7F ∷ []) (drop 1 sequences) (n ∷ bs) (rw (le-leb 0x00 n (omega arith), le-leb n 0x7F (omega arith)))
 
 reads-2 : (n a b : ℕ) (bs : List ℕ) → 0x80 ≤ n → n < 0x800 → a ≡ 0xC0 + n / 0x40 → b ≡ 0x80 + n % 0x40 → readBy sequences (a ∷ b ∷ bs) ≡ Char n 2

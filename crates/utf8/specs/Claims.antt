@@ -1,15 +1,50 @@
--- What is claimed of the definitions of `Characters` and `Text`: they read exactly the encodings of scalar values. Proofs: `proofs/Encodings.antt`,
--- `proofs/Texts.antt`.
+-- What is claimed of the definitions of `Characters` and `Text`: they read by the nine rows of the table, and exactly the encodings of scalar values.
+-- Proofs: `proofs/Table.antt`, `proofs/Encodings.antt`, `proofs/Texts.antt`.
 -- Assumes nothing.
 use Prim.Native.Nat.{ℕ}
 use mathlib.Core.Path.{_≡_}
-use mathlib.Core.List.{List, _++_}
+use mathlib.Core.Bool.{Bool, true, false}
+use mathlib.Core.List.{List, _++_, List·Memᴰ}
 use mathlib.Core.Option.{some}
-use lib.ListN.{length, drop}
-use Rattle.utf8.specs.declared.Character.the-variants.{Char}
-use Rattle.utf8.specs.Characters.{readFrom}
+use lib.ListN.{length, take, drop}
+use Rattle.utf8.specs.declared.Character.{Character}
+use Rattle.utf8.specs.declared.Character.the-variants.{Char, Malformed, End}
+use Rattle.utf8.specs.Characters.{Octets, sequences, startsWith, characterNumber, readFrom}
+use Rattle.utf8.specs.Rows.{anyRow}
 use Rattle.utf8.specs.Encoding.{Scalar, Scalars, encode, encodeText}
 use Rattle.utf8.specs.Text.{charsOf}
+
+-- ---- by the table's rows: "a character is read exactly where the bytes begin with a sequence of one of its nine rows"
+
+abbrev pub NineRows : Type 0
+NineRows = length sequences ≡ 9
+
+abbrev pub isCharacter : Character → Bool
+isCharacter (Char c w) = true
+isCharacter Malformed = false
+isCharacter End = false
+
+abbrev pub ReadExactlyByRows : Type 0
+ReadExactlyByRows = (bs : List ℕ) → isCharacter (readFrom bs) ≡ anyRow sequences bs
+
+-- its width and its value are that row's
+pub record ByRow (bs : List ℕ) (c w : ℕ) : Type 0 where
+  pub row : List Octets
+  pub in-table : List·Memᴰ row sequences
+  pub begins : startsWith row bs ≡ true
+  pub width : w ≡ length row
+  pub value : c ≡ characterNumber (take w bs)
+
+abbrev pub ReadByItsRow : Type 0
+ReadByItsRow = (bs : List ℕ) (c w : ℕ) → readFrom bs ≡ Char c w → ByRow bs c w
+
+-- no bytes begin with two rows
+abbrev pub OneRowOnly : Type 0
+OneRowOnly =
+    (bs : List ℕ) (row other : List Octets) → List·Memᴰ row sequences → List·Memᴰ other sequences
+    → startsWith row bs ≡ true → startsWith other bs ≡ true → row ≡ other
+
+-- ---- by the encodings
 
 -- encode, then read: the value and its width, whatever follows
 abbrev pub ReadsEncodings : Type 0

@@ -1,6 +1,6 @@
 -- The definitions that the contracts of `utf8` cite, and what is claimed of them.
 pub mod Characters
-pub mod Tails
+pub mod Rows
 pub mod Text
 pub mod Encoding
 pub mod Claims

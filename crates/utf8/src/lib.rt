@@ -1,16 +1,16 @@
 //! Characters of a text in UTF-8, by RFC 3629.
 //!
-//! The Rust gets its texts as `&str`, already checked. The bridge gets bytes, so the check stands here: whatever
-//! RFC 3629 does not allow is malformed, overlong forms and surrogates among them. After the check a text's characters
-//! are read without tests, as the Rust reads a `&str`.
+//! The Rust gets its texts as `&str`, already checked. The bridge gets bytes, so the check stands here. It goes by the nine rows
+//! of RFC 3629's syntax, the Unicode Standard's table 3-7: each row is a line of the code, and overlong forms, surrogates and
+//! numbers above U+10FFFF are in none of them. After the check a text's characters are read without tests, as the Rust reads a
+//! `&str`.
 ghost use mathlib.Core.Path.{_≡_};
-ghost use mathlib.Core.List.{List, _∷_};
 ghost use mathlib.Core.Option.{IsSome};
-ghost use Prim.Native.Nat.{ℕ, _+_, _*_, _<_, _≤_};
-ghost use lib.ListN.{length};
+ghost use Prim.Native.Nat.{_<_};
+ghost use lib.ListN.{length, getD};
 ghost use Rattle.utf8.specs.declared.Character.the-variants.{Char};
-ghost use Rattle.utf8.specs.Characters.{readFrom, characterAt};
-ghost use Rattle.utf8.specs.Tails.{Tail, TailAt};
+ghost use Rattle.utf8.specs.Characters.{octets, characterAt};
+ghost use Rattle.utf8.specs.Rows.{inside, beginsRow, tailOf};
 ghost use Rattle.utf8.specs.Text.{charsOf, charsFrom, countOf};
 
 // The bytes of a character are put together six bits after six bits, with the marks that RFC 3629 gives them: 110 and 10
@@ -49,10 +49,19 @@ fn wide(b: u8) -> u32
     b as u32
 }
 
-// The byte at a position where it is UTF8-tail, from 0x80 to 0xBF; 0 where none stands there. It is tested before it is made
-// wide: of a byte, the test is one comparison.
+// The byte at a position; 0 where the text has ended.
+fn byte_at(s: &[u8], at: usize) -> u8
+    ensures { λ r. ⌜ r ≡ getD (now (s .entry)) at 0 ⌝ }
+{
+    if at < s.len() {
+        return s[at];
+    }
+    0
+}
+
+// The byte at a position where it is UTF8-tail, from 0x80 to 0xBF; 0 where none stands there.
 fn tail_at(s: &[u8], at: usize) -> u32
-    ensures { λ r. ⌜ TailAt (now (s .entry)) at r ⌝ }
+    ensures { λ r. ⌜ r ≡ tailOf (getD (now (s .entry)) at 0) ⌝ }
 {
     if at < s.len() {
         let b = s[at];
@@ -63,82 +72,90 @@ fn tail_at(s: &[u8], at: usize) -> u32
     0
 }
 
-// What a lead byte below 0xE0 and a tail spell. Below U+0080 it is an overlong form, or the lead byte is none.
-fn two_bytes(c: u32) -> Character
-    ensures { λ r. ⌜ ((b0 b1 : ℕ) (rest : List ℕ) → Tail b1 → (0x80 ≤ b0) × (b0 < 0xE0) → c ≡ b0 * 0x40 + b1 → r ≡ readFrom (b0 ∷ b1 ∷ rest)) ⌝ }
+fn is_between(b: u8, first: u8, last: u8) -> bool
+    ensures { λ r. ⌜ r ≡ inside (octets first last) b ⌝ }
 {
-    if c < TWO_MARKS + 0x80 {
-        return Character::Malformed;
-    }
-    Character::Char(c - TWO_MARKS, 2)
+    (first <= b) & (b <= last)
 }
 
-// What a lead byte from 0xE0 to 0xEF and two tails spell. Below U+0800 it is an overlong form; the surrogates are the 2,048
-// values from U+D800, the 27th such run.
-fn three_bytes(c: u32) -> Character
-    requires { ⌜ 0xE_2080 ≤ c ⌝ }
-    ensures { λ r. ⌜ ((b0 b1 b2 : ℕ) (rest : List ℕ) → Tail b1 → Tail b2 → (0xE0 ≤ b0) × (b0 < 0xF0) → c ≡ (b0 * 0x40 + b1) * 0x40 + b2
-        → r ≡ readFrom (b0 ∷ b1 ∷ b2 ∷ rest)) ⌝ }
+// Whether a lead byte and a second byte begin a sequence of two bytes.
+fn begins_two(b0: u8, b1: u8) -> bool
+    ensures { λ r. ⌜ r ≡ beginsRow 2 b0 b1 ⌝ }
 {
-    let value = c - THREE_MARKS;
-    let run = value / 0x800;
-    if run == 0 {
-        return Character::Malformed;
+    match b0 {
+        0xC2..=0xDF => is_between(b1, 0x80, 0xBF),
+        _ => false,
     }
-    if run == 27 {
-        return Character::Malformed;
-    }
-    Character::Char(value, 3)
 }
 
-// What a lead byte from 0xF0 and three tails spell. Below U+10000 it is an overlong form, and U+10FFFF is the last.
-fn four_bytes(c: u32) -> Character
-    requires { ⌜ 0x3C8_2080 ≤ c ⌝ }
-    ensures { λ r. ⌜ ((b0 b1 b2 b3 : ℕ) (rest : List ℕ) → Tail b1 → Tail b2 → Tail b3 → 0xF0 ≤ b0 → c ≡ ((b0 * 0x40 + b1) * 0x40 + b2) * 0x40 + b3
-        → r ≡ readFrom (b0 ∷ b1 ∷ b2 ∷ b3 ∷ rest)) ⌝ }
+// Whether they begin one of three bytes.
+fn begins_three(b0: u8, b1: u8) -> bool
+    ensures { λ r. ⌜ r ≡ beginsRow 3 b0 b1 ⌝ }
 {
-    let value = c - FOUR_MARKS;
-    if value < 0x1_0000 {
-        return Character::Malformed;
+    match b0 {
+        0xE0 => is_between(b1, 0xA0, 0xBF),
+        0xE1..=0xEC => is_between(b1, 0x80, 0xBF),
+        0xED => is_between(b1, 0x80, 0x9F),
+        0xEE..=0xEF => is_between(b1, 0x80, 0xBF),
+        _ => false,
     }
-    if 0x10_FFFF < value {
-        return Character::Malformed;
-    }
-    Character::Char(value, 4)
 }
 
-// The character at a position of a text. Its bytes are read one after the other, each tested before the next.
+// Whether they begin one of four bytes.
+fn begins_four(b0: u8, b1: u8) -> bool
+    ensures { λ r. ⌜ r ≡ beginsRow 4 b0 b1 ⌝ }
+{
+    match b0 {
+        0xF0 => is_between(b1, 0x90, 0xBF),
+        0xF1..=0xF3 => is_between(b1, 0x80, 0xBF),
+        0xF4 => is_between(b1, 0x80, 0x8F),
+        _ => false,
+    }
+}
+
+// The character at a position of a text, by the table's rows: the lead byte says how many bytes there are, the lead byte and the
+// second byte are decided by the rows of that length, and the others are tails. What they spell is put together and not tested.
+// A byte is tested before it is made wide: of a byte, a range that begins with 0x80 is one comparison.
 pub fn read_char(s: &[u8], at: usize) -> Character
     ensures { λ r. ⌜ r ≡ characterAt (now (s .entry)) at ⌝ }
 {
     if s.len() <= at {
         return Character::End;
     }
-    let b0 = wide(s[at]);
+    let b0 = s[at];
     if b0 < 0x80 {
-        return Character::Char(b0, 1);
+        return Character::Char(wide(b0), 1);
     }
-    let b1 = tail_at(s, at + 1);
-    if b1 == 0 {
-        return Character::Malformed;
-    }
-    let c1 = b0 * 0x40 + b1;
+    let b1 = byte_at(s, at + 1);
+    let c1 = wide(b0) * 0x40 + wide(b1);
     if b0 < 0xE0 {
-        return two_bytes(c1);
+        if !begins_two(b0, b1) {
+            return Character::Malformed;
+        }
+        return Character::Char(c1 - TWO_MARKS, 2);
+    }
+    if b0 < 0xF0 {
+        if !begins_three(b0, b1) {
+            return Character::Malformed;
+        }
+        let b2 = tail_at(s, at + 2);
+        if b2 == 0 {
+            return Character::Malformed;
+        }
+        return Character::Char(c1 * 0x40 + b2 - THREE_MARKS, 3);
+    }
+    if !begins_four(b0, b1) {
+        return Character::Malformed;
     }
     let b2 = tail_at(s, at + 2);
     if b2 == 0 {
         return Character::Malformed;
     }
-    let c2 = c1 * 0x40 + b2;
-    if b0 < 0xF0 {
-        return three_bytes(c2);
-    }
     let b3 = tail_at(s, at + 3);
     if b3 == 0 {
         return Character::Malformed;
     }
-    four_bytes(c2 * 0x40 + b3)
+    Character::Char((c1 * 0x40 + b2) * 0x40 + b3 - FOUR_MARKS, 4)
 }
 
 // The character at a position of a text that is known to be well formed, where nothing malformed is met, and no end: the
@@ -179,6 +196,8 @@ pub fn next_char(s: &[u8], at: usize) -> NextChar
 pub fn char_count(s: &[u8]) -> CharCount
     ensures { λ r. ⌜ r ≡ countOf (charsOf (now (s .entry))) ⌝ }
 {
+    // Lent anew, so that the compiler passes the slice's place and length, and not where the two are kept.
+    let s = &*s;
     let mut at: usize = 0;
     let mut n: usize = 0;
     while at < s.len() {

@@ -1,5 +1,5 @@
 -- `utf8::char_count` meets its contract. The loop's invariant: the characters counted so far and those from the position on make the count of the whole.
--- Each turn passes the character that was read.
+-- Each turn passes the character that was read. `lent` is the text again, lent anew.
 -- Assumes nothing.
 use mathlib.Core.Path.{_≡_, sym, _∙_}
 use Prim.Native.Nat.{_≤_, _-_}
@@ -12,10 +12,10 @@ use Rattle.utf8.proofs.char_count.Statement.{statement}
 use Rattle.utf8.proofs.char_count.Tie as tie
 
 abbrev Inv-loop : tie.InvT-loop
-Inv-loop s at₀ n₀ at n = (n ≤ at) × (at ≤ length s) × (countOn n (charsFrom s at) ≡ countOf (charsOf s))
+Inv-loop s lent at₀ n₀ at n = (n ≤ at) × (at ≤ length s) × (countOn n (charsFrom s at) ≡ countOf (charsOf s))
 
 abbrev μ-loop : tie.MeasureT-loop
-μ-loop s at₀ n₀ at n = length s - at
+μ-loop s lent at₀ n₀ at n = length s - at
 
 loop-holds : tie.Need-loop-holds Inv-loop μ-loop
 loop-holds c = (omega arith, omega arith, count-start _)
