@@ -189,10 +189,10 @@ second-missing ts (b ∷ bs) none = rw (first-missing ts bs (next bs none)) (and
 
 -- ---- what four bytes spell
 
-value-4 : (b0 b1 b2 b3 : ℕ) → 0xF0 ≤ b0 → b0 ≤ 0xF4 → 0x80 ≤ b1 → b1 ≤ 0xBF → 0x80 ≤ b2 → b2 ≤ 0xBF → 0x80 ≤ b3 → b3 ≤ 0xBF
+four-spelled : (b0 b1 b2 b3 : ℕ) → 0xF0 ≤ b0 → b0 ≤ 0xF4 → 0x80 ≤ b1 → b1 ≤ 0xBF → 0x80 ≤ b2 → b2 ≤ 0xBF → 0x80 ≤ b3 → b3 ≤ 0xBF
     → (0x3C82080 ≤ ((b0 * 0x40 + b1) * 0x40 + b2) * 0x40 + b3)
     × (((b0 * 0x40 + b1) * 0x40 + b2) * 0x40 + b3 - 0x3C82080 ≡ b0 % 0x08 * 0x40000 + b1 % 0x40 * 0x1000 + b2 % 0x40 * 0x40 + b3 % 0x40)
-value-4 b0 b1 b2 b3 l0 h0 l1 h1 l2 h2 l3 h3 =
+four-spelled b0 b1 b2 b3 l0 h0 l1 h1 l2 h2 l3 h3 =
     spelled b0 b1 b2 b3 (b0 % 0x08) (b1 % 0x40) (b2 % 0x40) (b3 % 0x40) (omega arith) (omega arith) (omega arith) (omega arith)
   where
     spelled : (b0 b1 b2 b3 x0 x1 x2 x3 : ℕ) → b0 ≡ x0 + 0xF0 → b1 ≡ x1 + 0x80 → b2 ≡ x2 + 0x80 → b3 ≡ x3 + 0x80
@@ -329,7 +329,7 @@ module _ (s : List ℕ) (at b0 : ℕ) (e0 : b0 ≡ getD s at 0) (h : at < length
           let m : b2 ≤ 0xBF = omega (arith, t .2, x2) in
           let p : 0x80 ≤ b3 = omega (arith, w .1, x3) in
           let q : b3 ≤ 0xBF = omega (arith, w .2, x3) in
-          let v = value-4 b0 b1 b2 b3 l (r .lead-last) (r .second-first) (r .second-last) k m p q in (
+          let v = four-spelled b0 b1 b2 b3 l (r .lead-last) (r .second-first) (r .second-last) k m p q in (
             v .0,
             sym (ap (λ (c : ℕ). Char c 4) (v .1)
                 ∙ whole-row (tail ∷ tail ∷ []) (take 6 sequences) [] (pairsOf 4) 0xF0 0x100 refl tt tt b0 l u b1 (b2 ∷ b3 ∷ drop (at + 4) s) begins
