@@ -39,9 +39,9 @@
  * Words
  *
  *   - A word that a cut finds has only Han characters, ASCII letters and digits, and + # & . _ % - in it; one that cut_all
- *     finds has only Han. Han is U+4E00..9FFF, 3400..4DBF, F900..FAFF, 20000..2A6DF, 2A700..2EBEF and 2F800..2FA1F. A word
- *     with any other character, as a space, a full-width letter, a middle dot or the zero U+3007, is loaded and looked up like
- *     others, but a cut never finds it: the sentence is parted there first.
+ *     finds has only Han. Han is U+4E00..9FFF, 3400..4DBF, F900..FAFF, 20000..2A6DF, 2A700..2EE5F, 2F800..2FA1F and
+ *     30000..323AF. A word with any other character, as a space, a full-width letter, a middle dot or the zero U+3007, is
+ *     loaded and looked up like others, but a cut never finds it: the sentence is parted there first.
  *   - A cut also answers what is no word of the book: a character at which no word begins stands alone, and ASCII letters and
  *     digits that stand alone join with those beside them. So a word of one letter or digit may come joined, as 5 in 55.
  *   - Nothing is folded: upper and lower case, full width and compatibility forms are different characters.

@@ -135,7 +135,7 @@ def counts():
         yield f"{hexadecimal(text)}: {answer}"
 
 
-# ---- classes of characters: document 01's ranges
+# ---- classes of characters: document 01's ranges; the last three of Han are note 9's of document 02
 
 
 def numbers(*ranges):
@@ -161,6 +161,9 @@ HAN_EXTENSIONS = numbers(
     (0x2B820, 0x2CEAF),
     (0x2CEB0, 0x2EBEF),
     (0x2F800, 0x2FA1F),
+    (0x30000, 0x3134F),
+    (0x31350, 0x323AF),
+    (0x2EBF0, 0x2EE5F),
 )
 HAN = HAN_MAIN_BLOCK | HAN_EXTENSIONS
 LETTERS_AND_DIGITS = signs("0123456789ABCDEFGHIJKLMNOPQRSTUVWXYZabcdefghijklmnopqrstuvwxyz")

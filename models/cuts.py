@@ -19,11 +19,11 @@ import struct
 
 from books import MINUS_INFINITY, Book, Refused, cases, commands_of, decoded, lengths, logarithm, shown, store
 
-# ---- document 01's classes of characters
+# ---- document 01's classes of characters; the last three ranges of Han are note 9's of document 02
 
 HAN = [
     (0x4E00, 0x9FFF), (0x3400, 0x4DBF), (0xF900, 0xFAFF), (0x20000, 0x2A6DF), (0x2A700, 0x2B73F), (0x2B740, 0x2B81F),
-    (0x2B820, 0x2CEAF), (0x2CEB0, 0x2EBEF), (0x2F800, 0x2FA1F),
+    (0x2B820, 0x2CEAF), (0x2CEB0, 0x2EBEF), (0x2F800, 0x2FA1F), (0x30000, 0x3134F), (0x31350, 0x323AF), (0x2EBF0, 0x2EE5F),
 ]  # fmt: skip
 LETTERS_AND_DIGITS = "abcdefghijklmnopqrstuvwxyzABCDEFGHIJKLMNOPQRSTUVWXYZ0123456789"
 

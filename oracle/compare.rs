@@ -4,13 +4,15 @@
 //!     compare --dict FILE --text FILE  the same, then a real dictionary and a real text
 //!     compare --sample FOLDER          writes a sample for the program `cutlines`, FOLDER/stdin, and its answers, FOLDER/stdout
 //!
-//! The Rust that is compared has document 01's logarithm L in place of `ln` (jieba_l). The Rust as it is (jieba_ln) is only asked
-//! which sentences it cuts otherwise. Every made-up book and sentence comes from one fixed seed. The program ends with 1 if there
-//! was a difference.
+//! The Rust that is compared has document 01's logarithm L in place of `ln` (jieba_l); for sentences with characters of Extensions
+//! G, H and I, which note 9 of document 02 adds to Han, it has these among its ranges too (jieba_rare). The Rust as it is (jieba_ln)
+//! is only asked which sentences it cuts otherwise. Every made-up book and sentence comes from one fixed seed. The program ends with
+//! 1 if there was a difference.
 
 mod library;
 
 use library::{Book, Work};
+use rare::is_rare;
 use tongsvale::TokenizeMode;
 use std::collections::BTreeMap;
 use std::fmt::Write as _;
@@ -87,13 +89,69 @@ macro_rules! rust_side {
                 pub fn cut_for_search(&self, sentence: &str) -> Vec<u32> {
                     numbers(sentence, self.0.cut_for_search(sentence, false))
                 }
+
+                /// The tokens of each cut.
+                pub fn cuts(&self, sentence: &str) -> super::Cuts {
+                    super::Cuts {
+                        cut: self.cut(sentence),
+                        search: self.cut_for_search(sentence),
+                        all: self.cut_all(sentence),
+                    }
+                }
             }
         }
     };
 }
 
 rust_side!(with_l, jieba_l);
+rust_side!(with_rare, jieba_rare);
 rust_side!(with_ln, jieba_ln);
+
+/// The tokens of one sentence by each of the three cuts.
+#[derive(PartialEq)]
+struct Cuts {
+    cut: Vec<u32>,
+    search: Vec<u32>,
+    all: Vec<u32>,
+}
+
+/// Whether a sentence has a character of Extensions G, H or I.
+fn has_rare(sentence: &str) -> bool {
+    sentence.chars().any(is_rare)
+}
+
+/// The Rust that is compared, with L: by its own ranges, and by note 9's too for the sentences that have such characters.
+struct Rust {
+    plain: with_l::Rust,
+    rare: with_rare::Rust,
+}
+
+impl Rust {
+    fn empty() -> Self {
+        Rust { plain: with_l::Rust::empty(), rare: with_rare::Rust::empty() }
+    }
+
+    fn load(&mut self, text: &str) {
+        self.plain.load(text);
+        self.rare.load(text);
+    }
+
+    fn add(&mut self, word: &str, frequency: u64) -> u64 {
+        let added = self.plain.add(word, frequency);
+        assert_eq!(added, self.rare.add(word, frequency));
+        added
+    }
+
+    fn records_and_total(&self) -> (u64, u64) {
+        let counted = self.plain.records_and_total();
+        assert_eq!(counted, self.rare.records_and_total());
+        counted
+    }
+
+    fn cuts(&self, sentence: &str) -> Cuts {
+        if has_rare(sentence) { self.rare.cuts(sentence) } else { self.plain.cuts(sentence) }
+    }
+}
 
 // ---- books
 
@@ -221,9 +279,29 @@ struct Comparison {
     cuts_for_search: u64,
     cuts_all: u64,
     tokens: u64,
+    rare: Rare,
     differences: u64,
     work: Option<Work>,
     lent: Vec<u32>,
+}
+
+/// Of the sentences and answers those with characters of Extensions G, H and I, and how many of these sentences the Rust without
+/// the three ranges cuts otherwise.
+#[derive(Default)]
+struct Rare {
+    sentences: u64,
+    answers: u64,
+    otherwise: u64,
+}
+
+impl Rare {
+    fn count(&mut self, rust: &Rust, cuts: &Cuts, sentence: &str, books: usize) {
+        if has_rare(sentence) {
+            self.sentences += 1;
+            self.answers += 3 * books as u64;
+            self.otherwise += u64::from(rust.plain.cuts(sentence) != *cuts);
+        }
+    }
 }
 
 impl Comparison {
@@ -247,8 +325,8 @@ impl Comparison {
     }
 
     /// The Rust's book of a plan.
-    fn rust_book(plan: &Plan) -> with_l::Rust {
-        let mut rust = with_l::Rust::empty();
+    fn rust_book(plan: &Plan) -> Rust {
+        let mut rust = Rust::empty();
         for call in &plan.calls {
             match call {
                 Call::Load(text) => rust.load(text),
@@ -316,11 +394,11 @@ impl Comparison {
     }
 
     /// Compares one sentence in every size of a book.
-    fn sentence(&mut self, plan: &Plan, rust: &with_l::Rust, books: &[Sized], sentence: &str) {
+    fn sentence(&mut self, plan: &Plan, rust: &Rust, books: &[Sized], sentence: &str) {
         let chars = sentence.chars().count();
-        let cut = rust.cut(sentence);
-        let searched = rust.cut_for_search(sentence);
-        let cut_all = rust.cut_all(sentence);
+        let cuts = rust.cuts(sentence);
+        self.rare.count(rust, &cuts, sentence, books.len());
+        let Cuts { cut, search: searched, all: cut_all } = cuts;
         let mut work = self.work.take().unwrap_or_else(|| Work::new(1024, 16_384));
         work.reserve(16 * chars.min(100_000) + 3 * chars);
         for (i, sized) in books.iter().enumerate() {
@@ -376,7 +454,8 @@ impl Comparison {
     }
 
     /// Compares a word's frequency, or that it is absent, in every size of a book.
-    fn word(&mut self, plan: &Plan, rust: &mut with_l::Rust, books: &[Sized], word: &str) {
+    fn word(&mut self, plan: &Plan, rust: &mut Rust, books: &[Sized], word: &str) {
+        let rust = &mut rust.plain;
         let expected = if rust.has_word(word) { (0, 1, rust.frequency(word)) } else { (0, 0, 0) };
         let planned = plan.held.get(word).copied();
         assert_eq!(planned, (expected.1 == 1).then_some(expected.2), "the Rust and the plan part at {word:?}");
@@ -391,7 +470,7 @@ impl Comparison {
     }
 
     /// Compares the words of a plan, their beginnings and some words that lie near.
-    fn words(&mut self, plan: &Plan, rust: &mut with_l::Rust, books: &[Sized]) {
+    fn words(&mut self, plan: &Plan, rust: &mut Rust, books: &[Sized]) {
         self.word(plan, rust, books, "");
         for word in plan.held.keys() {
             self.word(plan, rust, books, word);
@@ -409,6 +488,8 @@ impl Comparison {
             self.books, self.sized_books, self.sentences, self.cuts, self.cuts_for_search, self.cuts_all, self.lookups, self.calls,
             self.tokens, self.differences, since.elapsed().as_secs_f64(),
         );
+        let Rare { sentences, answers, otherwise } = self.rare;
+        println!("  with characters of Extensions G, H and I: {sentences} sentences, {answers} cuts; the Rust without them cuts {otherwise} otherwise");
     }
 
     fn answers(&self) -> u64 {
@@ -512,9 +593,49 @@ fn compare_short(comparison: &mut Comparison) {
     }
 }
 
+// ---- every short sentence with rare characters
+
+/// The first and the last character of Extensions I, G and H and their neighbours, beside what else parts or joins a sentence.
+const RARE_ALPHABET: [char; 14] = [
+    '\u{2EBEF}', '\u{2EBF0}', '\u{2EE5F}', '\u{2EE60}', '\u{2FFFF}', '\u{30000}', '\u{3134F}', '\u{31350}', '\u{323AF}', '\u{323B0}',
+    '甲', 'a', '-', '，',
+];
+
+/// Books over the alphabet of rare characters.
+fn rare_books() -> Vec<Plan> {
+    let mut books = vec![Plan::new("empty".to_string())];
+    let mut pairs = Plan::new("every rare pair".to_string());
+    let mut random = Random(SEED);
+    every_sentence(&RARE_ALPHABET, 2, |word| {
+        if !word.is_empty() {
+            pairs.add(word, frequency_by_chance(&mut random) % 100_000);
+        }
+    });
+    books.push(pairs);
+    let mut long = Plan::new("long rare words".to_string());
+    long.load(&[
+        ("\u{2EBEF}\u{2EBF0}\u{2EE5F}", 60), ("\u{2EBEF}\u{2EBF0}", 20), ("\u{2EBF0}\u{2EE5F}", 10), ("\u{2EE5F}\u{2EE60}", 90),
+        ("\u{2FFFF}\u{30000}", 90), ("\u{30000}\u{3134F}\u{31350}\u{323AF}", 80), ("\u{3134F}\u{31350}", 5), ("\u{30000}\u{3134F}\u{31350}", 4),
+        ("\u{31350}\u{323AF}", 70), ("\u{323AF}\u{323B0}", 90), ("甲\u{30000}", 30), ("\u{323AF}甲", 30), ("a\u{3134F}-\u{31350}", 50), ("甲", 7),
+    ]);
+    books.push(long);
+    books
+}
+
+fn compare_rare(comparison: &mut Comparison) {
+    for plan in rare_books() {
+        let mut rust = Comparison::rust_book(&plan);
+        let books = comparison.library_books(&plan);
+        every_sentence(&RARE_ALPHABET, 4, |sentence| comparison.sentence(&plan, &rust, &books, sentence));
+        comparison.words(&plan, &mut rust, &books);
+    }
+    assert!(comparison.rare.otherwise > 0, "the Rust without Extensions G, H and I cuts every sentence alike");
+}
+
 // ---- books and sentences by chance
 
-/// Characters at the ends of every range that is treated apart: classes, white space, lengths in UTF-8, root tables.
+/// Characters at the ends of every range that is treated apart: classes, white space, lengths in UTF-8, root tables. All that comes by
+/// chance goes by how many they are, the sample with it; Extensions G, H and I have an alphabet of their own above.
 const BOUNDARY: [u32; 119] = [
     0x0, 0x1, 0x8, 0x9, 0xA, 0xB, 0xC, 0xD, 0xE, 0x1C, 0x1F, 0x20, 0x21, 0x22, 0x23, 0x24, 0x25, 0x26, 0x27, 0x2A, 0x2B, 0x2C, 0x2D,
     0x2E, 0x2F, 0x30, 0x39, 0x3A, 0x40, 0x41, 0x5A, 0x5B, 0x5E, 0x5F, 0x60, 0x61, 0x7A, 0x7B, 0x7F, 0x80, 0x84, 0x85, 0x86, 0x9F,
@@ -648,7 +769,7 @@ fn compare_by_chance(comparison: &mut Comparison, books: usize, words: usize, se
             let sentence = sentence_by_chance(&mut random, &held, &characters, pieces);
             comparison.sentence(&plan, &rust, &books, &sentence);
             if let Some(true_ln) = &asked {
-                otherwise.ask(&plan, &rust, true_ln, &sentence);
+                otherwise.ask(&plan, &rust.plain, true_ln, &sentence);
             }
         }
     }
@@ -664,6 +785,7 @@ struct Otherwise {
 }
 
 impl Otherwise {
+    /// Both by the Rust's own ranges, so that they part by the logarithm alone.
     fn ask(&mut self, plan: &Plan, rust: &with_l::Rust, true_ln: &with_ln::Rust, sentence: &str) {
         self.asked += 1;
         let with_l = rust.cut(sentence);
@@ -723,7 +845,7 @@ fn compare_real(comparison: &mut Comparison, dict: &str, text: &str, otherwise: 
     let mut lines = 0;
     for line in text.split_inclusive('\n') {
         comparison.sentence(&plan, &rust, &books, line);
-        otherwise.ask(&plan, &rust, &true_ln, line);
+        otherwise.ask(&plan, &rust.plain, &true_ln, line);
         lines += 1;
     }
     println!("real text: {lines} lines, {} bytes", text.len());
@@ -732,7 +854,7 @@ fn compare_real(comparison: &mut Comparison, dict: &str, text: &str, otherwise: 
     for length in [1000, 65_536, 1_000_000, 15_000_000, 16_777_215] {
         let sentence = repeated(text, length);
         comparison.sentence(&plan, &rust, &books[..1], &sentence);
-        otherwise.ask(&plan, &rust, &true_ln, &sentence);
+        otherwise.ask(&plan, &rust.plain, &true_ln, &sentence);
     }
 }
 
@@ -761,7 +883,7 @@ struct Sample {
     list: String,
     answers: String,
     plan: Plan,
-    rust: with_l::Rust,
+    rust: Rust,
     random: Random,
 }
 
@@ -782,9 +904,8 @@ impl Sample {
     }
 
     fn cuts(&mut self, sentence: &str) {
-        for (kind, tokens) in
-            [(2, self.rust.cut(sentence)), (3, self.rust.cut_all(sentence)), (4, self.rust.cut_for_search(sentence))]
-        {
+        let Cuts { cut, search, all } = self.rust.cuts(sentence);
+        for (kind, tokens) in [(2, cut), (3, all), (4, search)] {
             self.frame(kind, sentence, tokens.len() / 4, &tokens);
         }
     }
@@ -849,6 +970,25 @@ impl Sample {
         assert_eq!(self.plan.total, 0);
     }
 
+    /// Note 9's characters: a name with one, the ends of Extensions I, G and H, and words that run over them, which are never cut.
+    /// Afterwards the total is what it was.
+    fn rare_names(&mut self) {
+        let total = self.plan.total;
+        let words = [
+            "\u{30EDE}", "\u{30EDE}家", "\u{2EBEF}\u{2EBF0}", "\u{2EE5F}\u{2EE60}", "\u{2FFFF}\u{30000}", "\u{3134F}\u{31350}",
+            "\u{30000}\u{3134F}\u{31350}\u{323AF}", "\u{323AF}\u{323B0}",
+        ];
+        self.load(&words.map(|word| (word, 100)));
+        for sentence in [
+            "打开\u{30EDE}家灯", "\u{2EBEF}\u{2EBF0}\u{2EE5F}\u{2EE60}", "\u{2FFFF}\u{30000}\u{3134F}\u{31350}\u{323AF}\u{323B0}",
+            "\u{3134F}\u{31350}，\u{323B0}\u{30EDE}",
+        ] {
+            self.cuts(sentence);
+        }
+        self.load(&words.map(|word| (word, 0)));
+        assert_eq!(self.plan.total, total);
+    }
+
     /// The slots that the held words take beside 256 root entries.
     fn slots(&self) -> usize {
         let mut steps = std::collections::BTreeSet::new();
@@ -868,7 +1008,8 @@ fn sample_heading() -> String {
         "\
 # The lines down to \"{OUR_OWN}\" are made by `oracle/compare FOLDER --sample` (seed {SEED}), and so are the lines
 # that answer them in `stdout`; not edited by hand. The answers are the Rust's (jieba-rs, commit bac49e65b8, with document 01's
-# logarithm L in place of ln, HMM off); a load's says that the Rust accepted the text, and how many lines the text has.
+# logarithm L in place of ln, HMM off, and with note 9's ranges of Han for sentences that have such characters); a load's says that
+# the Rust accepted the text, and how many lines the text has.
 "
     )
 }
@@ -878,7 +1019,7 @@ fn sample() -> Sample {
         list: String::new(),
         answers: String::new(),
         plan: Plan::new("the sample".to_string()),
-        rust: with_l::Rust::empty(),
+        rust: Rust::empty(),
         random: Random(SEED),
     };
     for line in sample_heading().lines() {
@@ -920,6 +1061,7 @@ fn sample() -> Sample {
             taken += 1;
         }
     }
+    sample.rare_names();
     sample.comment(OUR_OWN);
     let (records, slots) = (sample.plan.held.len(), sample.slots());
     println!("sample: {} lines; {records} records, {slots} slots", sample.list.lines().count());
@@ -966,17 +1108,19 @@ fn main() {
     if let Some(path) = after("--list") {
         otherwise.list = Box::new(std::fs::File::create(path).expect("the list cannot be written"));
     }
-    let mut all = (0, 0);
+    let mut all = (0, 0, 0);
     let mut part = |name: &str, run: &mut dyn FnMut(&mut Comparison)| {
         let since = Instant::now();
         let mut comparison = Comparison::default();
         run(&mut comparison);
         comparison.report(name, since);
         all.0 += comparison.answers();
-        all.1 += comparison.differences;
+        all.1 += comparison.rare.answers;
+        all.2 += comparison.differences;
     };
     println!("seed {SEED}");
     part("every short sentence", &mut |c| compare_short(c));
+    part("every short sentence with rare characters", &mut |c| compare_rare(c));
     part("small books by chance", &mut |c| compare_by_chance(c, 3000, 12, 30, &mut otherwise));
     part("larger books by chance", &mut |c| compare_by_chance(c, 40, 3000, 200, &mut otherwise));
     otherwise.report("every tenth book by chance");
@@ -988,6 +1132,6 @@ fn main() {
         }
         _ => println!("real dictionary and text: not given, skipped"),
     }
-    println!("{} answers compared, {} differences", all.0, all.1);
-    exit(if all.1 == 0 { 0 } else { 1 });
+    println!("{} answers compared, {} of them with Extensions G, H and I; {} differences", all.0, all.1, all.2);
+    exit(if all.2 == 0 { 0 } else { 1 });
 }

@@ -1,4 +1,4 @@
-//! Document 01's examples.
+//! Document 01's examples, and one of document 02's note 9.
 mod common;
 use common::*;
 use tongsvale::{Dictionary, Error, Scratch, Token, TokenizeMode};
@@ -41,6 +41,16 @@ fn at_total_0_the_shortest_word_wins() {
     assert_eq!(cut(&dictionary, "甲乙"), (0, vec!["甲", "乙"]));
     assert_eq!(dictionary.add_word("丙".as_bytes(), 1), Ok(1));
     assert_eq!(cut(&dictionary, "甲乙"), (0, vec!["甲乙"]));
+}
+
+#[test]
+fn a_name_with_a_rare_character_is_cut() {
+    // U+30EDE is of Extension G, which joined Han with note 9 of document 02; U+323B0 is the first character after Extension H.
+    let dictionary = loaded(1, 16, 4, "打开 50\n𰻞家 30\n灯 40\n\u{323b0}家 90\n");
+    assert_eq!(cut(&dictionary, "打开𰻞家灯"), (0, vec!["打开", "𰻞家", "灯"]));
+    assert_eq!(cut_for_search(&dictionary, "打开𰻞家灯"), (0, vec!["打开", "𰻞家", "灯"]));
+    assert_eq!(cut_all(&dictionary, "打开𰻞家灯"), (0, vec!["打开", "𰻞家", "灯"]));
+    assert_eq!(cut(&dictionary, "打开\u{323b0}家灯"), (0, vec!["打开", "\u{323b0}", "家", "灯"]));
 }
 
 #[test]

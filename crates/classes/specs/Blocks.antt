@@ -1,4 +1,5 @@
--- The classes of characters that part a sentence into blocks (document 01, "The sentence's blocks"). Assumes nothing.
+-- The classes of characters that part a sentence into blocks (document 01, "The sentence's blocks"; document 02, note 9). Assumes
+-- nothing.
 use mathlib.Core.Bool.{Bool, _||_}
 use mathlib.Core.List.{List, [], _∷_}
 use Prim.Native.Nat.{ℕ}
@@ -9,6 +10,7 @@ abbrev pub hanMainRanges : List Range
 hanMainRanges = range 0x4E00 0x9FFF ∷ []
 
 -- 01: "or an extension: U+3400..4DBF, F900..FAFF, 20000..2A6DF, 2A700..2B73F, 2B740..2B81F, 2B820..2CEAF, 2CEB0..2EBEF, 2F800..2FA1F"
+-- 02, note 9: "Extension G (U+30000..3134F), H (U+31350..323AF) and I (U+2EBF0..2EE5F). All three join Han, for every cut."
 abbrev pub hanExtensionRanges : List Range
 hanExtensionRanges =
     range 0x3400 0x4DBF
@@ -19,6 +21,9 @@ hanExtensionRanges =
     ∷ range 0x2B820 0x2CEAF
     ∷ range 0x2CEB0 0x2EBEF
     ∷ range 0x2F800 0x2FA1F
+    ∷ range 0x30000 0x3134F
+    ∷ range 0x31350 0x323AF
+    ∷ range 0x2EBF0 0x2EE5F
     ∷ []
 
 unfoldable pub hanMain : ℕ → Bool

@@ -1,5 +1,6 @@
 //! The classes of characters that loads and cuts go by (lib.rs; the connectors from hmm.rs). A character is its code point, and each
-//! class is decided by a match over the code points that document 01 lists. Every number is accepted, code point or not.
+//! class is decided by a match over the code points that document 01 lists, for Han with those of document 02's note 9. Every number
+//! is accepted, code point or not.
 ghost use mathlib.Core.Path.{_≡_};
 ghost use mathlib.Core.Bool.{not};
 ghost use Rattle.classes.specs.WhiteSpace.{whiteSpace};
@@ -59,7 +60,10 @@ pub fn is_cjk_extension(c: u32) -> bool
         | 0x2B740..=0x2B81F
         | 0x2B820..=0x2CEAF
         | 0x2CEB0..=0x2EBEF
-        | 0x2F800..=0x2FA1F => true,
+        | 0x2EBF0..=0x2EE5F
+        | 0x2F800..=0x2FA1F
+        | 0x30000..=0x3134F
+        | 0x31350..=0x323AF => true,
         _ => false,
     }
 }

@@ -1,5 +1,6 @@
 -- `classes::is_cjk_extension` meets its contract: at each `return` the tests of the `match` leave the code points for which the ranges
--- of `hanExtension` give the answer returned. Assumes nothing.
+-- of `hanExtension` give the answer returned. Neighbouring ranges are tested as one, Extensions C to F with I and G with H; `inside`
+-- finds that the ranges listed one by one have all of it. Assumes nothing.
 use mathlib.Core.List.{[]}
 use Rattle.classes.specs.Blocks.{hanExtension}
 use Rattle.classes.proofs.Ranges.{inside, outside, under}
@@ -28,11 +29,11 @@ returns-5 c = search inside
 
 returns-6 : tie.Need-returns-6
 unfolding hanExtension
-returns-6 c = search (under [])
+returns-6 c = search inside
 
 returns-7 : tie.Need-returns-7
 unfolding hanExtension
-returns-7 c = search (outside [])
+returns-7 c = search (under [])
 
 returns-8 : tie.Need-returns-8
 unfolding hanExtension
@@ -50,6 +51,14 @@ returns-11 : tie.Need-returns-11
 unfolding hanExtension
 returns-11 c = search (outside [])
 
+returns-12 : tie.Need-returns-12
+unfolding hanExtension
+returns-12 c = search (outside [])
+
+returns-13 : tie.Need-returns-13
+unfolding hanExtension
+returns-13 c = search (outside [])
+
 pub is-cjk-extension-spec : {M : Type 1} → statement M
 is-cjk-extension-spec =
     tie.close
@@ -64,4 +73,6 @@ is-cjk-extension-spec =
     returns-8
     returns-9
     returns-10
-    returns-11)
+    returns-11
+    returns-12
+    returns-13)
