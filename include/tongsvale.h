@@ -48,6 +48,8 @@
  *   - A byte-order mark (U+FEFF) is no white space. It becomes part of the first word, which no cut then finds: strip it.
  *   - A line without a frequency gives its word the frequency 0. Where the total is 0 the shortest word wins at each place,
  *     so give frequencies. All 1 will do; then the fewest steps win, a step being a word or a character alone.
+ *   - Of several best ways through a block the one taken has the longer step at the first place where it parts from any other
+ *     of them. Where every way takes a word of frequency 0, which makes them all alike, this need not be so.
  *   - Frequency 0 does not remove a word: it is held, and a cut answers it where no better way leads past it. No call removes
  *     a word; prepare the book again and load the others.
  *

@@ -166,7 +166,9 @@ impl Dictionary {
 
     /// Cuts a sentence into words.
     ///
-    /// A sentence may be anything that has bytes; one that is malformed is refused.
+    /// A sentence may be anything that has bytes; one that is malformed is refused. Of several best ways through it the one
+    /// taken has the longer step at the first place where it parts from any other of them, unless every way takes a word of
+    /// frequency 0.
     pub fn cut<'s, 't>(
         &self,
         sentence: &'s (impl AsRef<[u8]> + ?Sized),

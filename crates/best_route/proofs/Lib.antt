@@ -5,3 +5,4 @@ pub mod Order
 pub mod Steps
 pub mod Paths
 pub mod TotalZero
+pub mod Ties

@@ -1,14 +1,15 @@
--- The order of scores: not being less is reflexive and transitive, and a sum keeps it.
+-- The order of scores: not being less is reflexive and transitive, holds both ways of equal scores alone, and a sum keeps it; a sum that is whole has
+-- whole parts, of which one gives the other.
 -- Of whole numbers it is the sign of the difference: a < b exactly where a - b is negative (`less-by-sign`). A sum takes the same off on both sides, and
 -- two differences that are not negative have a sum that is not. Minus infinity is less than every whole number.
 -- Assumes nothing.
 use Prim.Native.Nat.{ℕ, zero, suc, _-_, zero-le}
 use mathlib.Core.Bool.{true, false, cond, true≢false, false≢true}
-use mathlib.Core.Path.{_≡_, refl, sym, ap, _∙_, subst}
+use mathlib.Core.Path.{_≡_, refl, sym, ap, _∙_}
 use lib.Dec.{ltb, leb·suc-suc}
 use lib.IntN.{ℤ, pos, negsuc, negℤ, subℕ, _+ℤ_, _-ℤ_, +ℤ-assoc, +ℤ-comm, +ℤ-idl, +ℤ-invr, +ℤ-invl, +ℤ-negℤ-cancel, negℤ-+ℤ, negℤ-negℤ}
 use lib.Signed.{ltZ}
-use borrow.Author.Tests.{lt-ltb, le-ltb, eqb-true}
+use borrow.Author.Tests.{lt-ltb, le-ltb, ltb-false, eqb-true, eqb-false}
 use native.Mathlib.Omega.{arith}
 use Rattle.score.specs.Scores.{Score, minusInfinity, whole, plus, lessThan, equals, sameWhole, negative}
 use Rattle.score.proofs.Tests.{by-leb}
@@ -39,12 +40,16 @@ join-differences a b c =
     +ℤ-assoc a (negℤ b) (b -ℤ c)
     ∙ ap (λ (x : ℤ). a +ℤ x) (sym (+ℤ-assoc (negℤ b) b (negℤ c)) ∙ ap (λ (x : ℤ). x +ℤ negℤ c) (+ℤ-invl b) ∙ +ℤ-idl (negℤ c))
 
+-- (c + a) - c = a
+second-part : (c a : ℤ) → (c +ℤ a) -ℤ c ≡ a
+second-part c a = ap (λ (x : ℤ). x -ℤ c) (+ℤ-comm c a) ∙ +ℤ-negℤ-cancel a c
+
 -- (c + a) - (c + b) = a - b
 cancel-sum : (c a b : ℤ) → (c +ℤ a) -ℤ (c +ℤ b) ≡ a -ℤ b
 cancel-sum c a b =
     ap (λ (x : ℤ). (c +ℤ a) +ℤ x) (negℤ-+ℤ c b)
     ∙ sym (+ℤ-assoc (c +ℤ a) (negℤ c) (negℤ b))
-    ∙ ap (λ (x : ℤ). x +ℤ negℤ b) (ap (λ (x : ℤ). x -ℤ c) (+ℤ-comm c a) ∙ +ℤ-negℤ-cancel a c)
+    ∙ ap (λ (x : ℤ). x +ℤ negℤ b) (second-part c a)
 
 -- b - a is a - b with the other sign
 turn-difference : (a b : ℤ) → negℤ (a -ℤ b) ≡ b -ℤ a
@@ -59,6 +64,13 @@ same-whole (pos a) (pos b) same = ap pos (eqb-true a b same)
 same-whole (pos a) (negsuc b) same = absurd (false≢true same)
 same-whole (negsuc a) (pos b) same = absurd (false≢true same)
 same-whole (negsuc a) (negsuc b) same = ap negsuc (eqb-true a b same)
+
+-- two whole numbers of which neither is less are the same
+neither-less : (a b : ℤ) → ltZ a b ≡ false → ltZ b a ≡ false → a ≡ b
+neither-less (pos a) (pos b) ab ba = ap pos (omega (arith, ltb-false a b ab, ltb-false b a ba))
+neither-less (pos a) (negsuc b) ab ba = absurd (true≢false ba)
+neither-less (negsuc a) (pos b) ab ba = absurd (true≢false ab)
+neither-less (negsuc a) (negsuc b) ab ba = ap negsuc (omega (arith, ltb-false b a ab, ltb-false a b ba))
 
 -- ---- scores
 
@@ -100,9 +112,34 @@ less-at-least (whole a) minusInfinity less = absurd (false≢true less)
 less-at-least (whole a) (whole b) less =
     less-by-sign b a ∙ ap negative (sym (turn-difference a b)) ∙ turned-sign (a -ℤ b) (sym (less-by-sign a b) ∙ less)
 
-pub equal-at-least : (s t : Score) → equals s t ≡ true → AtLeast s t
-unfolding lessThan equals
-equal-at-least minusInfinity minusInfinity same = refl
-equal-at-least minusInfinity (whole b) same = absurd (false≢true same)
-equal-at-least (whole a) minusInfinity same = refl
-equal-at-least (whole a) (whole b) same = subst (λ (x : ℤ). ltZ a x ≡ false) (same-whole a b same) (at-least-self (whole a))
+pub at-least-both : (s t : Score) → AtLeast s t → AtLeast t s → s ≡ t
+unfolding lessThan
+at-least-both minusInfinity minusInfinity st ts = refl
+at-least-both minusInfinity (whole b) st ts = absurd (true≢false st)
+at-least-both (whole a) minusInfinity st ts = absurd (true≢false ts)
+at-least-both (whole a) (whole b) st ts = ap whole (neither-less a b st ts)
+
+-- ---- equal scores
+
+pub equal-scores : (s t : Score) → equals s t ≡ true → s ≡ t
+unfolding equals
+equal-scores minusInfinity minusInfinity same = refl
+equal-scores minusInfinity (whole b) same = absurd (false≢true same)
+equal-scores (whole a) minusInfinity same = absurd (false≢true same)
+equal-scores (whole a) (whole b) same = ap whole (same-whole a b same)
+
+pub equal-itself : (s : Score) → equals s s ≡ false → ⊥
+unfolding equals
+equal-itself minusInfinity e = true≢false e
+equal-itself (whole (pos a)) e = eqb-false a a e refl
+equal-itself (whole (negsuc a)) e = eqb-false a a e refl
+
+-- where two sums with one first part are the same whole number, the second parts are the same whole number
+pub second-parts : (c s t : Score) (z : ℤ) → plus c s ≡ whole z → plus c t ≡ whole z → (y : ℤ) × (s ≡ whole y) × (t ≡ whole y)
+unfolding plus
+second-parts minusInfinity s t z cs ct = let none : _≡_ {A = ℕ} 0 1 = cc in absurd (omega arith)
+second-parts (whole c) minusInfinity t z cs ct = let none : _≡_ {A = ℕ} 0 1 = cc in absurd (omega arith)
+second-parts (whole c) (whole a) minusInfinity z cs ct = let none : _≡_ {A = ℕ} 0 1 = cc in absurd (omega arith)
+second-parts (whole c) (whole a) (whole b) z cs ct =
+    let same : c +ℤ a ≡ c +ℤ b = cc in
+    (a, refl, ap whole (sym (second-part c b) ∙ ap (λ (x : ℤ). x -ℤ c) (sym same) ∙ second-part c a))

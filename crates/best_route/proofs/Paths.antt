@@ -1,5 +1,5 @@
 -- `RouteBest`: from each position the route has the highest score of all paths.
--- The score at a position is at least that of each step from there with the score at the step's end (`step-at-least`), so by the path's steps it is
+-- The score at a position is at least that of each step from there with the score at the step's end (`step-no-worse`), so by the path's steps it is
 -- at least the path's; and it is that of one such step, the one that ends where the route does, so the path of these steps has it. Over doubles the
 -- same holds, since the scores of the route (`route-exact`) and of each path are exact.
 -- Assumes nothing.
@@ -19,12 +19,12 @@ use Rattle.score.proofs.Logarithm.{logarithm-edge}
 use Rattle.score.proofs.Tests.{by-leb}
 use Rattle.route.specs.Route.{Best, stepScore, routeOf}
 use Rattle.route.specs.Slices.{nowhere}
-use Rattle.best_route.specs.Paths.{Word, edgesOf, Forward, Scored, unreached, asFloat, stepOver, scored, bestStep, laterScore, scoreRoute}
+use Rattle.best_route.specs.Paths.{Word, edgesOf, Forward, Block, Scored, unreached, asFloat, stepOver, scored, bestStep, laterScore, scoreRoute}
 use Rattle.best_route.specs.Paths.{stepsAt, IsPath, Follows, pathScore, pathFloat}
 use Rattle.best_route.specs.Claims.{RouteBest}
 use Rattle.best_route.proofs.Exact.{step-within, score-exact, route-length, sizes-held, route-exact}
 use Rattle.best_route.proofs.Order.{AtLeast, at-least-self, at-least-trans, at-least-plus}
-use Rattle.best_route.proofs.Steps.{step-at-least, step-one}
+use Rattle.best_route.proofs.Steps.{NoWorse, step-no-worse, step-one}
 
 -- ---- one entry of the route
 
@@ -67,7 +67,7 @@ end-score total at (row ∷ rows) = end-score total (at + 1) rows
 
 module _ (total : ℕ) (rows : List (List Word)) where
   -- the score at a position
-  abbrev value : ℕ → Score
+  abbrev pub value : ℕ → Score
   value position = getD (scoreRoute total 0 rows) position unreached .score
 
   -- a step from a position
@@ -81,7 +81,7 @@ module _ (total : ℕ) (rows : List (List Word)) where
   later-value position within q behind = entry position within .of-route q (omega arith) ∙ ap value (sub-zero q)
 
   module _ (forward : Forward 0 rows) where
-    step-forward : (position : ℕ) (w : Word) → position < length rows → StepFrom position w → (position < w .end) × (w .end ≤ length rows)
+    pub step-forward : (position : ℕ) (w : Word) → position < length rows → StepFrom position w → (position < w .end) × (w .end ≤ length rows)
     step-forward position w within = go (getD rows position []) (λ v m. let ahead = forward position v m in (omega arith, omega arith))
       where
         go : (row : List Word)
@@ -93,18 +93,18 @@ module _ (total : ℕ) (rows : List (List Word)) where
 
     -- ---- no path has a higher score
 
-    value-at-least : (position : ℕ) (w : Word)
+    pub entry-no-worse : (position : ℕ) (w : Word)
         → position < length rows
         → StepFrom position w
-        → AtLeast (value position) (stepOver total (w .frequency) (value (w .end)))
-    value-at-least position w within m =
-        rw (ap (λ (s : Scored). s .score) (entry position within .best), ← later-value position within (w .end) (step-forward position w within m .0))
-        (step-at-least total (entry position within .later) (position + 1) (getD rows position []) w m)
+        → NoWorse (getD (scoreRoute total 0 rows) position unreached) (scored total value w)
+    entry-no-worse position w within m =
+        rw (entry position within .best, ← later-value position within (w .end) (step-forward position w within m .0))
+        (step-no-worse total (entry position within .later) (position + 1) (getD rows position []) w m)
 
-    none-higher : (path : List Word) (position : ℕ) → IsPath rows position path → AtLeast (value position) (pathScore total path)
+    pub none-higher : (path : List Word) (position : ℕ) → IsPath rows position path → AtLeast (value position) (pathScore total path)
     none-higher [] position here = rw (here, end-score total 0 rows) (at-least-self (whole (pos 0)))
     none-higher (step ∷ path) position (within, m, rest) =
-        at-least-trans _ _ _ (value-at-least position step within m) (at-least-plus _ _ _ (none-higher path (step .end) rest))
+        at-least-trans _ _ _ (entry-no-worse position step within m .score) (at-least-plus _ _ _ (none-higher path (step .end) rest))
 
     -- ---- the path that follows the route
 
@@ -169,6 +169,13 @@ module _ (total : ℕ) (rows : List (List Word)) where
 
 -- ---- the claim
 
+-- an entry of the route of doubles is that of the route of scores
+pub same-entry : (total : ℕ) (rows : List (List Word)) → Block total 0 rows → (k : ℕ) → k ≤ length rows
+    → getD (routeOf (logFloat total) 0 (edgesOf rows)) k nowhere ≡ asFloat (getD (scoreRoute total 0 rows) k unreached)
+same-entry total rows block k within =
+    ap (λ (r : List Best). getD r k nowhere) (route-exact total 0 rows block .0)
+    ∙ score-exact (scoreRoute total 0 rows) k (omega (arith, route-length total 0 rows))
+
 pub route-best : RouteBest
 route-best total rows block position inside =
     record {
@@ -189,16 +196,11 @@ route-best total rows block position inside =
     route : List Best
     route = routeOf (logFloat total) 0 (edgesOf rows)
 
-    same-entry : (k : ℕ) → k ≤ length rows → getD route k nowhere ≡ asFloat (getD (scoreRoute total 0 rows) k unreached)
-    same-entry k within =
-        ap (λ (r : List Best). getD r k nowhere) (route-exact total 0 rows block .0)
-        ∙ score-exact (scoreRoute total 0 rows) k (omega (arith, route-length total 0 rows))
-
     same-score : getD route position nowhere .score ≡ floatOf (value total rows position)
-    same-score = ap (λ (b : Best). b .score) (same-entry position inside)
+    same-score = ap (λ (b : Best). b .score) (same-entry total rows block position inside)
 
     same-end : (k : ℕ) → k < length rows → getD route k nowhere .end ≡ getD (scoreRoute total 0 rows) k unreached .end
-    same-end k within = ap (λ (b : Best). b .end) (same-entry k (omega arith))
+    same-end k within = ap (λ (b : Best). b .end) (same-entry total rows block k (omega arith))
 
     exact-path : (path : List Word)
         → IsPath rows position path

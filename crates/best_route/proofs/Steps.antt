@@ -1,30 +1,62 @@
--- The best step from a position, over scores: its score is at least that of every step there, and it is one of them.
--- Of two steps `better` takes one whose score is not less than the other's, and so `bestOf` does of all.
+-- The best step from a position, over scores: its score is at least that of every step there, of those with its score none ends later, and it is one
+-- of them.
+-- Of two steps `better` takes one that is no worse than the other, and so `bestOf` does of all.
 -- Assumes nothing.
-use Prim.Native.Nat.{ℕ}
-use mathlib.Core.Bool.{Bool, true, false, cond, _&&_, _||_}
+use Prim.Native.Nat.{ℕ, _≤_}
+use mathlib.Core.Bool.{Bool, true, false, cond, _&&_, _||_, true≢false}
 use mathlib.Core.List.{List, [], _∷_, List·Memᴰ, List·Memᴰ·head, List·Memᴰ·tail, List·Memᴰ·cases-cons, List·Memᴰ·eq-of-singleton}
 use mathlib.Core.Logic.{_⊎_, inl, inr, ⊎-elim}
-use mathlib.Core.Path.{_≡_, refl, _∙_}
+use mathlib.Core.Path.{_≡_, refl, sym, _∙_, subst}
+use native.Mathlib.Omega.{arith}
+use borrow.Author.Tests.{ltb-true, ltb-false}
 use lib.Dec.{ltb}
 use Rattle.score.specs.Scores.{Score, lessThan, equals}
 use Rattle.best_route.specs.Paths.{Word, Scored, scored, wins, better, bestOf, lone, bestStep, stepsAt}
-use Rattle.best_route.proofs.Order.{AtLeast, at-least-self, at-least-trans, less-at-least, equal-at-least}
+use Rattle.best_route.proofs.Order.{AtLeast, at-least-self, at-least-trans, less-at-least, at-least-both, equal-scores, equal-itself}
 
 -- ---- two steps
 
-better-at-least : (new old : Scored) → AtLeast (better new old .score) (new .score) × AtLeast (better new old .score) (old .score)
-better-at-least new old = go (lessThan (old .score) (new .score)) (equals (new .score) (old .score)) (ltb (old .end) (new .end)) refl refl
+-- a step is no worse than another: "Greater score wins, then larger end"
+pub record NoWorse (s t : Scored) : Type 0 where
+  pub score : AtLeast (s .score) (t .score)
+  pub end : t .score ≡ s .score → t .end ≤ s .end
+
+no-worse-self : (s : Scored) → NoWorse s s
+no-worse-self s = record { score = at-least-self (s .score); end = λ same. omega arith }
+
+no-worse-trans : (r s t : Scored) → NoWorse r s → NoWorse s t → NoWorse r t
+no-worse-trans r s t rs st = record {
+  score = at-least-trans (r .score) (s .score) (t .score) (rs .score) (st .score);
+  end = λ same.
+      let middle : s .score ≡ r .score = at-least-both (s .score) (r .score) (subst (AtLeast (s .score)) same (st .score)) (rs .score) in
+      omega (arith, rs .end middle, st .end (same ∙ sym middle));
+}
+
+better-no-worse : (new old : Scored) → NoWorse (better new old) new × NoWorse (better new old) old
+better-no-worse new old = go (lessThan (old .score) (new .score)) (equals (new .score) (old .score)) (ltb (old .end) (new .end)) refl refl refl
   where
     go : (less same further : Bool)
         → lessThan (old .score) (new .score) ≡ less
         → equals (new .score) (old .score) ≡ same
-        → AtLeast (cond (less || same && further) new old .score) (new .score)
-        × AtLeast (cond (less || same && further) new old .score) (old .score)
-    go true same further e f = (at-least-self (new .score), less-at-least (old .score) (new .score) e)
-    go false true true e f = (at-least-self (new .score), equal-at-least (new .score) (old .score) f)
-    go false true false e f = (e, at-least-self (old .score))
-    go false false further e f = (e, at-least-self (old .score))
+        → ltb (old .end) (new .end) ≡ further
+        → NoWorse (cond (less || same && further) new old) new × NoWorse (cond (less || same && further) new old) old
+    go true same further e f g = (
+      no-worse-self new,
+      record {
+        score = less-at-least (old .score) (new .score) e;
+        end = λ equal. absurd (true≢false (sym e ∙ subst (AtLeast (old .score)) equal (at-least-self (old .score))));
+      },
+    )
+    go false true true e f g = (
+      no-worse-self new,
+      record {
+        score = subst (AtLeast (new .score)) (equal-scores (new .score) (old .score) f) (at-least-self (new .score));
+        end = λ equal. omega (arith, ltb-true (old .end) (new .end) g);
+      },
+    )
+    go false true false e f g = (record { score = e; end = λ equal. ltb-false (old .end) (new .end) g }, no-worse-self old)
+    go false false further e f g =
+        (record { score = e; end = λ equal. absurd (equal-itself (old .score) (subst (λ (s : Score). equals s (old .score) ≡ false) equal f)) }, no-worse-self old)
 
 pub better-one : (new old : Scored) → (better new old ≡ new) ⊎ (better new old ≡ old)
 better-one new old = go (wins new old)
@@ -36,17 +68,17 @@ better-one new old = go (wins new old)
 -- ---- all steps
 
 module _ (total : ℕ) (later : ℕ → Score) where
-  best-at-least : (best : Scored) (ws : List Word) → AtLeast (bestOf total later best ws .score) (best .score)
+  best-no-worse : (best : Scored) (ws : List Word) → NoWorse (bestOf total later best ws) best
   unfolding bestOf
-  best-at-least best [] = at-least-self (best .score)
-  best-at-least best (w ∷ ws) =
-      at-least-trans _ _ _ (best-at-least (better (scored total later w) best) ws) (better-at-least (scored total later w) best .1)
+  best-no-worse best [] = no-worse-self best
+  best-no-worse best (w ∷ ws) =
+      no-worse-trans _ _ _ (best-no-worse (better (scored total later w) best) ws) (better-no-worse (scored total later w) best .1)
 
-  best-at-least-each : (best : Scored) (ws : List Word) (w : Word) → List·Memᴰ w ws → AtLeast (bestOf total later best ws .score) (scored total later w .score)
+  best-no-worse-each : (best : Scored) (ws : List Word) (w : Word) → List·Memᴰ w ws → NoWorse (bestOf total later best ws) (scored total later w)
   unfolding bestOf
-  best-at-least-each best (v ∷ ws) w (List·Memᴰ·head e) =
-      rw e (at-least-trans _ _ _ (best-at-least (better (scored total later v) best) ws) (better-at-least (scored total later v) best .0))
-  best-at-least-each best (v ∷ ws) w (List·Memᴰ·tail m) = best-at-least-each (better (scored total later v) best) ws w m
+  best-no-worse-each best (v ∷ ws) w (List·Memᴰ·head e) =
+      rw e (no-worse-trans _ _ _ (best-no-worse (better (scored total later v) best) ws) (better-no-worse (scored total later v) best .0))
+  best-no-worse-each best (v ∷ ws) w (List·Memᴰ·tail m) = best-no-worse-each (better (scored total later v) best) ws w m
 
   -- one of the words is this step
   abbrev OneIs : List Word → Scored → Type 0
@@ -67,12 +99,12 @@ module _ (total : ℕ) (later : ℕ → Score) where
 
   -- ---- the steps of a position
 
-  pub step-at-least : (next : ℕ) (row : List Word) (w : Word)
+  pub step-no-worse : (next : ℕ) (row : List Word) (w : Word)
       → List·Memᴰ w (stepsAt next row)
-      → AtLeast (bestStep total later next row .score) (scored total later w .score)
-  step-at-least next [] w m = rw (List·Memᴰ·eq-of-singleton m) (at-least-self (scored total later (lone next) .score))
-  step-at-least next (v ∷ ws) w m =
-      ⊎-elim (λ e. rw e (best-at-least (scored total later v) ws)) (λ n. best-at-least-each (scored total later v) ws w n) (List·Memᴰ·cases-cons m)
+      → NoWorse (bestStep total later next row) (scored total later w)
+  step-no-worse next [] w m = rw (List·Memᴰ·eq-of-singleton m) (no-worse-self (scored total later (lone next)))
+  step-no-worse next (v ∷ ws) w m =
+      ⊎-elim (λ e. rw e (best-no-worse (scored total later v) ws)) (λ n. best-no-worse-each (scored total later v) ws w n) (List·Memᴰ·cases-cons m)
 
   pub step-one : (next : ℕ) (row : List Word) → OneIs (stepsAt next row) (bestStep total later next row)
   step-one next [] = (lone next, List·Memᴰ·head refl, refl)

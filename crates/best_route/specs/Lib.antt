@@ -2,3 +2,4 @@
 -- Assumes nothing.
 pub mod Paths
 pub mod Claims
+pub mod Ties

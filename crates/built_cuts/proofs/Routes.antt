@@ -23,14 +23,14 @@ use Rattle.built_cuts.proofs.Rows.{block-words}
 
 -- ---- the best route
 
-rows-forward : (ledger : List Entry) (cs : List ℕ) (rows : List (List Word)) → HeldRows ledger cs rows → Forward 0 rows
+pub rows-forward : (ledger : List Entry) (cs : List ℕ) (rows : List (List Word)) → HeldRows ledger cs rows → Forward 0 rows
 rows-forward ledger cs rows held position w m =
     let its = held .each-held position w m in (
       omega (arith, its .ends, its .one-or-more),
       omega (arith, its .ends, its .inside, held .positions),
     )
 
-best-route : (total : ℕ) (ledger : List Entry) (cs : List ℕ) (rows : List (List Word))
+pub best-route : (total : ℕ) (ledger : List Entry) (cs : List ℕ) (rows : List (List Word))
     → HeldRows ledger cs rows → 1 ≤ total → length cs ≤ longestText → BestRoute total rows
 best-route total ledger cs rows held counted short =
     let block : Block total 0 rows = record { counted = counted; short = omega (arith, held .positions); forward = rows-forward ledger cs rows held } in
@@ -56,15 +56,20 @@ none-counted (e ∷ es) word frequency nothing entered =
     by true q later = let its : e .frequency ≡ frequency = cc in omega arith
     by false q later = later q
 
+-- and so has each word of the rows
+pub none-in-rows : (ledger : List Entry) (cs : List ℕ) (rows : List (List Word)) → HeldRows ledger cs rows → sumOf ledger ≡ 0
+    → (k : ℕ) (v : Word) → List·Memᴰ v (getD rows k []) → v .frequency ≡ 0
+none-in-rows ledger cs rows held nothing k v m =
+    let of-v = held .each-held k v m in
+    none-counted ledger (take (of-v .size) (drop k cs)) (v .frequency) nothing (of-v .entered)
+
 shortest-at : (total : ℕ) (ledger : List Entry) (cs : List ℕ) (rows : List (List Word))
     → HeldRows ledger cs rows → total ≡ sumOf ledger → total ≡ 0
     → (position : ℕ) (w : Word) → HeldAt ledger cs position w → ShortestAt total ledger cs rows position
 shortest-at total ledger cs rows held sum nothing position w its = by (getD rows position []) refl (held .none-missing position w its)
   where
     all-zero : (k : ℕ) (v : Word) → List·Memᴰ v (getD rows k []) → v .frequency ≡ 0
-    all-zero k v m =
-        let of-v = held .each-held k v m in
-        none-counted ledger (take (of-v .size) (drop k cs)) (v .frequency) (sym sum ∙ nothing) (of-v .entered)
+    all-zero = none-in-rows ledger cs rows held (sym sum ∙ nothing)
 
     by : (row : List Word) → getD rows position [] ≡ row → List·Memᴰ w row → ShortestAt total ledger cs rows position
     by [] here m = absurd (List·Memᴰ·not-nil m)

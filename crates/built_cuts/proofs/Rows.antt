@@ -34,7 +34,7 @@ wordBefore end (some frequency) ws = record { end = end; frequency = frequency }
 
 module _ (ledger : List Entry) where
   -- the words that begin with the characters read so far, and end after one or more of those that follow
-  unfoldable heldAfter : List ℕ → ℕ → List ℕ → List Word
+  unfoldable pub heldAfter : List ℕ → ℕ → List ℕ → List Word
   heldAfter read at [] = []
   heldAfter read at (c ∷ cs) = wordBefore (at + 1) (frequencyIn ledger (read ++ (c ∷ []))) (heldAfter (read ++ (c ∷ [])) (at + 1) cs)
 
@@ -126,7 +126,7 @@ module _ (ledger : List Entry) where
   -- ---- the rows
 
   -- the words from each position on, the first of them at the given one
-  unfoldable rowsFrom : ℕ → List ℕ → List (List Word)
+  unfoldable pub rowsFrom : ℕ → List ℕ → List (List Word)
   rowsFrom at [] = []
   rowsFrom at (c ∷ cs) = heldAfter [] at (c ∷ cs) ∷ rowsFrom (at + 1) cs
 
@@ -146,7 +146,7 @@ module _ (ledger : List Entry) where
   row-of : (cs : List ℕ) (position : ℕ) → getD (rowsFrom 0 cs) position [] ≡ heldAfter [] position (drop position cs)
   row-of cs position = row-at cs 0 position position (omega arith)
 
-  held-rows : (cs : List ℕ) → HeldRows ledger cs (rowsFrom 0 cs)
+  pub held-rows : (cs : List ℕ) → HeldRows ledger cs (rowsFrom 0 cs)
   held-rows cs = record {
     positions = rows-length cs 0;
     each-held = λ position w m.
@@ -168,7 +168,7 @@ module _ (ledger : List Entry) where
 -- ---- the walks
 
 module _ (b : Book) (ledger : List Entry) (by : BuiltByCalls b ledger) where
-  walks-met : (cs : List ℕ) (at : ℕ) → Scalars cs → walksOf (wordsFrom b) at cs ≡ map met (edgesOf (rowsFrom ledger at cs))
+  pub walks-met : (cs : List ℕ) (at : ℕ) → Scalars cs → walksOf (wordsFrom b) at cs ≡ map met (edgesOf (rowsFrom ledger at cs))
   unfolding walksOf rowsFrom ledgerWords
   walks-met [] at s = refl
   walks-met (c ∷ cs) at s = rw (walk-as-ledger b ledger by at (c ∷ cs) s, edges-after ledger (c ∷ cs) [] at, walks-met cs (at + 1) (s .1))
@@ -190,7 +190,7 @@ rest-fits first rest room fits = by (leb (first + rest) room) refl
     by true e = le-leb rest (room - first) (omega (arith, leb-true (first + rest) room e))
     by false e = lt-leb rest (room - first) (omega (arith, leb-false (first + rest) room e))
 
-edges-within : (rows : List (List Word)) (room : ℕ) → edgesWithin room (map met (edgesOf rows)) ≡ orFull (leb (wordCount rows) room) (edgesOf rows)
+pub edges-within : (rows : List (List Word)) (room : ℕ) → edgesWithin room (map met (edgesOf rows)) ≡ orFull (leb (wordCount rows) room) (edgesOf rows)
 unfolding edgesWithin
 edges-within [] room = rw (le-leb 0 room (omega arith))
 edges-within (row ∷ rows) room = by (edgesWithin (room - length es) (map met (edgesOf rows))) (edges-within rows (room - length es)) (ltb room (length es)) refl
@@ -216,7 +216,7 @@ by-room : (fits : Bool) (rows : List (List Edge)) (f : Edges → CutAnswer)
 by-room true rows f = refl
 by-room false rows f = refl
 
-goes-by-rows : (b : Book) (cs : List ℕ) (rows : List (List Word)) → WalksMeet b cs rows → GoesByRows b cs rows
+pub goes-by-rows : (b : Book) (cs : List ℕ) (rows : List (List Word)) → WalksMeet b cs rows → GoesByRows b cs rows
 unfolding cutBlock searchBlock
 goes-by-rows b cs rows meets = record {
   cut = λ room base w.
@@ -227,7 +227,7 @@ goes-by-rows b cs rows meets = record {
       ∙ by-room (leb (wordCount rows) room) (edgesOf rows) (searchEdges (logFloat (b .head .total)) base cs w);
 }
 
-pub block-words : (b : Book) (ledger : List Entry) → BuiltByCalls b ledger → (cs : List ℕ) → Scalars cs → BlockWords b ledger cs
+unfoldable pub block-words : (b : Book) (ledger : List Entry) → BuiltByCalls b ledger → (cs : List ℕ) → Scalars cs → BlockWords b ledger cs
 block-words b ledger by cs s = record {
   rows = rowsFrom ledger 0 cs;
   held = held-rows ledger cs;

@@ -1,7 +1,7 @@
--- `BestInSentences` and `ShortestInSentences`: each block of a sentence is a list of scalar values no longer than the sentence.
+-- `BestInSentences`, `FixedInSentences` and `ShortestInSentences`: each block of a sentence is a list of scalar values no longer than the sentence.
 -- A block gains one character at a time, and each character of a text is a scalar value of one byte or more.
 -- Assumes nothing.
-use mathlib.Core.Path.{_≡_, refl, subst}
+use mathlib.Core.Path.{_≡_, refl}
 use mathlib.Core.Bool.{Bool, true, false, Bool·beq}
 use mathlib.Core.List.{List, [], _∷_, List·Memᴰ, List·Memᴰ·head, List·Memᴰ·tail, List·Memᴰ·not-nil, List·Memᴰ·cases-cons, List·Memᴰ·eq-of-singleton}
 use mathlib.Core.Logic.{⊎-elim}
@@ -12,9 +12,11 @@ use lib.ListN.{length}
 use Rattle.utf8.specs.Encoding.{Scalar, Scalars}
 use Rattle.utf8.specs.Text.{charsOf}
 use Rattle.utf8.proofs.Texts.{texts-only-of-encodings, no-more-than-bytes}
+use Rattle.book.specs.Returns.{longestText}
 use Rattle.cuts.specs.Blocks.{Block, onto, blocksOf}
-use Rattle.built_cuts.specs.Claims.{BestInSentences, ShortestInSentences}
+use Rattle.built_cuts.specs.Claims.{BestInSentences, FixedInSentences, ShortestInSentences}
 use Rattle.built_cuts.proofs.Routes.{best-in-built-books, shortest-in-built-books}
+use Rattle.built_cuts.proofs.Ties.{fixed-in-built-books}
 
 -- ---- its blocks
 
@@ -55,10 +57,22 @@ blocks-fit class (c ∷ cs) s block k = onto-fits (length cs) c (class c) (block
 
 -- ---- the claims
 
+-- of a sentence that is no longer than a text may be
+block-fits : (sentence cs : List ℕ) → length sentence ≤ longestText → charsOf sentence ≡ some cs
+    → (class : ℕ → Bool) → EachFits longestText (blocksOf class cs)
+block-fits sentence cs short e class block k =
+    let fits = blocks-fit class cs (texts-only-of-encodings sentence cs e .0) block k in
+    record { scalars = fits .scalars; short = omega (arith, fits .short, no-more-than-bytes sentence cs e) }
+
 pub best-in-sentences : BestInSentences
 best-in-sentences b ledger by counted sentence cs short e class block k =
-    let fits = blocks-fit class cs (texts-only-of-encodings sentence cs e .0) block k in
-    best-in-built-books b ledger by counted (block .chars) (fits .scalars) (omega (arith, fits .short, no-more-than-bytes sentence cs e))
+    let fits = block-fits sentence cs short e class block k in
+    best-in-built-books b ledger by counted (block .chars) (fits .scalars) (fits .short)
+
+pub fixed-in-sentences : FixedInSentences
+fixed-in-sentences b ledger by sentence cs short e class block k =
+    let fits = block-fits sentence cs short e class block k in
+    fixed-in-built-books b ledger by (block .chars) (fits .scalars) (fits .short)
 
 pub shortest-in-sentences : ShortestInSentences
 shortest-in-sentences b ledger by nothing sentence cs e class block k =

@@ -1,9 +1,9 @@
 -- What is claimed of cuts in books built by calls: document 01, "Edges and route", with the words and frequencies of the ledger; and of search words in
 -- every book. A block is given by its characters, and positions are counted from its start. `cutBlock` and `searchBlock` (`cuts/specs/Cuts.antt`) are
 -- what the public cuts do with a block of their class; `GoesByRows` ties them to the rows and routes of which the claims speak.
--- Proofs: `proofs/Routes.antt`, `proofs/Sentences.antt`, `proofs/SearchWords.antt`.
+-- Proofs: `proofs/Routes.antt`, `proofs/Ties.antt`, `proofs/Sentences.antt`, `proofs/SearchWords.antt`.
 -- Assumes nothing.
-use Prim.Native.Nat.{ℕ, _+_, _≤_}
+use Prim.Native.Nat.{ℕ, _+_, _≤_, _<_}
 use mathlib.Core.Bool.{Bool, true, false, cond}
 use mathlib.Core.List.{List, [], _∷_, map, List·Memᴰ}
 use mathlib.Core.Logic.{_≢_}
@@ -29,10 +29,11 @@ use Rattle.route.specs.Slices.{nowhere}
 use Rattle.best_route.specs.Paths.{Word, edgesOf, unreached, asFloat, scoreRoute}
 use Rattle.best_route.specs.Paths as Paths
 use Rattle.best_route.specs.Claims.{BestFrom, Rising}
+use Rattle.best_route.specs.Ties.{FixedChoice, Finite}
 use Rattle.cuts.specs.Blocks as Blocks
 use Rattle.cuts.specs.Blocks.{blocksOf}
 use Rattle.cuts.specs.Edges.{vocabularyOf, walksOf, edges, stopped, edgesWithin}
-use Rattle.cuts.specs.Tokens.{span, cutRoute, anyOf, heldBetween, searched, Written}
+use Rattle.cuts.specs.Tokens.{Span, span, stepsFrom, cutRoute, anyOf, heldBetween, searched, Written}
 use Rattle.cuts.specs.Cuts.{answer, Base, putSpans, cutBlock, searchBlock}
 use Rattle.cuts.specs.Slices.{blockOf}
 
@@ -109,6 +110,37 @@ BestInBuiltBooks =
     → 1 ≤ b .head .total → (cs : List ℕ) → Scalars cs → length cs ≤ longestText
     → BestInBlock b ledger cs
 
+-- ---- equal scores
+
+-- the steps of a path from a position, as spans
+abbrev pub spansAlong : ℕ → List Word → List Span
+spansAlong from [] = []
+spansAlong from (step ∷ path) = span from (step .end) ∷ spansAlong (step .end) path
+
+-- the choice from a position, and that a cut takes it: the steps from there, of which `cutRoute` in `GoesByRows` makes the tokens by joining letters, are
+-- those of the path
+pub record FixedFrom (total : ℕ) (cs : List ℕ) (rows : List (List Word)) (position : ℕ) : Type 0 where
+  pub counted : 1 ≤ total
+  pub choice : FixedChoice total rows position
+  pub steps : stepsFrom (length cs) (routeOf (logFloat total) 0 (edgesOf rows)) (length cs) position ≡ spansAlong position (choice .taken)
+
+-- what a cut of the block goes by, and the choice from each position whose score is finite
+pub record FixedInBlock (b : Book) (ledger : List Entry) (cs : List ℕ) : Type 0 where
+  pub words : BlockWords b ledger cs
+  pub fixed : (position : ℕ) → position < length cs
+      → Finite (getD (routeOf (logFloat (b .head .total)) 0 (edgesOf (words .rows))) position nowhere .score)
+      → FixedFrom (b .head .total) cs (words .rows) position
+
+-- document 02, note 14: "Where the best score of a block is finite, in a book built by calls, .. the route taken is the only best one such that every other
+-- best route, at the first place where the two part, has the smaller end there." The block's score is that of position 0, and the same is claimed from
+-- every other position. A finite score has a total of at least 1. "Minus-infinity routes keep only the rule for each position": of these nothing is
+-- claimed here (`Examples.antt` shows why), and the rule is `routeOf`.
+abbrev pub FixedInBuiltBooks : Type 0
+FixedInBuiltBooks =
+    (b : Book) (ledger : List Entry) → BuiltByCalls b ledger
+    → (cs : List ℕ) → Scalars cs → length cs ≤ longestText
+    → FixedInBlock b ledger cs
+
 -- ---- the shortest word
 
 -- at a position the route takes a word of the ledger, with NaN for its score, and no word of the ledger that starts there is shorter
@@ -139,6 +171,13 @@ BestInSentences =
     → 1 ≤ b .head .total → (sentence cs : List ℕ) → length sentence ≤ longestText → charsOf sentence ≡ some cs
     → (class : ℕ → Bool) (block : Blocks.Block) → List·Memᴰ block (blocksOf class cs)
     → BestInBlock b ledger (block .chars)
+
+abbrev pub FixedInSentences : Type 0
+FixedInSentences =
+    (b : Book) (ledger : List Entry) → BuiltByCalls b ledger
+    → (sentence cs : List ℕ) → length sentence ≤ longestText → charsOf sentence ≡ some cs
+    → (class : ℕ → Bool) (block : Blocks.Block) → List·Memᴰ block (blocksOf class cs)
+    → FixedInBlock b ledger (block .chars)
 
 abbrev pub ShortestInSentences : Type 0
 ShortestInSentences =
