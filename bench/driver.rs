@@ -138,6 +138,46 @@ fn megabytes(bytes: usize) -> f64 {
     bytes as f64 / 1e6
 }
 
+/// An empty Rust, then the text: the records that it has then.
+fn load_rust(rust: &mut Jieba, text: &str) -> usize {
+    *rust = Jieba::empty();
+    rust.load_dict(&mut text.as_bytes()).unwrap();
+    format!("{rust:?}").split(|c: char| !c.is_ascii_digit()).find_map(|s| s.parse().ok()).unwrap()
+}
+
+/// The text of so many lines into an empty book: the records that it has then.
+fn load_book(book: &mut Book, text: &str, lines: usize) -> usize {
+    let loaded = book.load(text.as_bytes());
+    assert_eq!((loaded.number, loaded.line), (0, lines));
+    book.head()[0] as usize
+}
+
+/// The same into a book that is emptied first.
+fn load_again(book: &mut Book, text: &str, lines: usize) -> usize {
+    book.clear();
+    load_book(book, text, lines)
+}
+
+/// A house's vocabulary: so many words of 1 to 4 characters, each once, with frequencies from 1 to 1,000, the same in every run.
+fn house(words: usize) -> String {
+    let mut state: u64 = 1;
+    let mut below = |limit: u64| {
+        state = state.wrapping_mul(6_364_136_223_846_793_005).wrapping_add(1_442_695_040_888_963_407);
+        (state >> 33) % limit
+    };
+    let mut held = std::collections::HashSet::new();
+    let mut text = String::new();
+    while held.len() < words {
+        let length = 1 + below(4);
+        let word: String = (0..length).map(|_| char::from_u32(0x4E00 + below(2_000) as u32).unwrap()).collect();
+        let frequency = 1 + below(1_000);
+        if held.insert(word.clone()) {
+            text += &format!("{word} {frequency}\n");
+        }
+    }
+    text
+}
+
 fn main() {
     let arguments: Vec<String> = std::env::args().skip(1).collect();
     let read = |path: &String| std::fs::read_to_string(path).expect("a file cannot be read");
@@ -147,28 +187,27 @@ fn main() {
     let words = dict.lines().count();
     let mut book = Book::prepare(65_536, 1_048_576, words + 1);
     let mut rust = Jieba::empty();
-    let load = |book: &mut Book| {
-        let loaded = book.load(dict.as_bytes());
-        assert_eq!((loaded.number, loaded.line), (0, words));
-        book.head()[0] as usize
-    };
-    let records = |rust: &Jieba| format!("{rust:?}").split(|c: char| !c.is_ascii_digit()).find_map(|s| s.parse().ok()).unwrap();
     println!("dictionary: {words} lines, {} bytes; {RUNS} runs of each side by turns", dict.len());
-    let of_rust = |rust: &mut Jieba| {
-        *rust = Jieba::empty();
-        rust.load_dict(&mut dict.as_bytes()).unwrap();
-        records(rust)
-    };
-    let lent = measure(RUNS, || of_rust(&mut rust), || {
-        book.clear();
-        load(&mut book)
-    });
+    let lent = measure(RUNS, || load_rust(&mut rust, &dict), || load_again(&mut book, &dict, words));
     lent.print("load", megabytes(dict.len()), "MB/s");
-    let fresh = measure(RUNS, || of_rust(&mut rust), || {
+    let fresh = measure(RUNS, || load_rust(&mut rust, &dict), || {
         book = Book::prepare(65_536, 1_048_576, words + 1);
-        load(&mut book)
+        load_book(&mut book, &dict, words)
     });
     fresh.print("load, areas made anew", megabytes(dict.len()), "MB/s");
+
+    // The same of a house's vocabulary.
+    let (words, times) = (2_000, 100);
+    let vocabulary = house(words);
+    println!("house: {words} words, {} bytes, {times} times a run", vocabulary.len());
+    let mut rust_of_house = Jieba::empty();
+    let mut book_of_house = Book::prepare(65_536, 8_192, words);
+    let loads = measure(
+        RUNS,
+        || (0..times).map(|_| load_rust(&mut rust_of_house, &vocabulary)).sum(),
+        || (0..times).map(|_| load_again(&mut book_of_house, &vocabulary, words)).sum(),
+    );
+    loads.print("load", megabytes(times * vocabulary.len()), "MB/s");
 
     // Each text line by line.
     for path in &arguments[1..] {

@@ -28,9 +28,10 @@
  * Threads: lookups and cuts only read the book, so several threads may cut with one book at once, each with a work area of
  * its own, while none prepares, loads or adds.
  *
- * Stack: a call took at most 1,000 bytes below the caller's frame, its arguments with them (load 1,000, add 904, the cuts 888,
- * lookup 520, cut_all 472, prepare 152); keep 2,048 free. This was measured on one build, with a caller compiled by gcc
- * -O2 (by -O0 it was 1,160), and is not proved. Nothing in the library calls itself, so it does not grow with the input.
+ * Stack: a load took 5,128 bytes below the caller's frame, its arguments with them; 4,096 of these hold the table of
+ * logarithms. Any other call took at most 904 (add 904, the cuts 776, lookup 504, cut_all 328, prepare 152). Keep 8,192 free
+ * for a load and 2,048 for the other calls. This was measured on one build, with a caller compiled by gcc -O2 (by -O0 it was
+ * 5,240 and 1,048), and is not proved. Nothing in the library calls itself, so it does not grow with the input.
  *
  * Time: at each character of a sentence a cut follows the longest beginning of a stored word that stands there, with a probe
  * for each character of it: a few slots as a rule, all of them at worst. So it takes up to the sentence's characters times

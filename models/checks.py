@@ -275,5 +275,15 @@ def logarithms():
         yield f"{n}: {logarithm(n)}"
 
 
-GROUPS = [encodings, boundaries, truncations, positions, counts, classes, frequencies, dictionary_lines, logarithms]
-print("\n\n".join("\n".join(group()) for group in GROUPS))
+def looked_up():
+    yield "Logarithm L, looked up"
+    for n in 0, 1, 2, 3, 1000, 1023, 1024, 1025, 4294967295:
+        yield f"{n}: {logarithm(n)}"
+    yield "from 0 up as worked out: 3000 numbers"
+
+
+GROUPS = [
+    encodings, boundaries, truncations, positions, counts, classes, frequencies, dictionary_lines, logarithms, looked_up,
+]  # fmt: skip
+if __name__ == "__main__":
+    print("\n\n".join("\n".join(group()) for group in GROUPS))

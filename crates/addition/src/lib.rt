@@ -84,6 +84,7 @@ pub fn add_word(
         return not_added(head, Outcome::BadFrequency);
     }
     let shift = trie::shift_of(keys.len());
+    let logarithm = score::log(frequency as u32);
     let entered = entry::load_entry(
         head,
         root_children,
@@ -96,6 +97,7 @@ pub fn add_word(
         shift,
         word,
         frequency as u32,
+        logarithm,
     );
     added_by(entered, frequency)
 }

@@ -6,6 +6,7 @@ ghost use mathlib.Core.Bool.{true};
 ghost use Prim.Native.Nat.{_-_, _≤_};
 ghost use lib.ListN.{length};
 ghost use Rattle.utf8.specs.Text.{charsOf};
+ghost use Rattle.score.specs.Logarithm.{logFloat};
 ghost use Rattle.trie.specs.Trie.{log2};
 ghost use Rattle.trie.specs.Lent.{was, became};
 ghost use Rattle.book.specs.Areas.{bookLent, bookLeft};
@@ -38,7 +39,7 @@ fn replaced(head: Head, total: u64) -> Entered
     }
 }
 
-// A word enters with its frequency, or is refused and leaves everything as it was.
+// A word enters with its frequency and the logarithm of that, or is refused and leaves everything as it was.
 pub fn load_entry(
     head: Head,
     root_children: &mut [u32],
@@ -51,10 +52,12 @@ pub fn load_entry(
     shift: u32,
     word: &[u8],
     frequency: u32,
+    logarithm: f64,
 ) -> Entered
     requires { ⌜ allowed (length (now «root_children»)) (length (now «root_words»)) (length (now keys)) (length (now children)) (length (now words))
         (length (now frequencies)) (length (now logarithms)) ≡ true ⌝ }
-    requires { ⌜ (shift ≡ 64 - log2 (length (now keys))) × IsSome (charsOf (now word)) × (length (now word) ≤ longestText) ⌝ }
+    requires { ⌜ (shift ≡ 64 - log2 (length (now keys))) × IsSome (charsOf (now word)) × (length (now word) ≤ longestText)
+        × (logarithm ≡ logFloat frequency) ⌝ }
     ensures { λ r. ⌜ enterAnswer (r .outcome) (bookLeft (r .head) «root_children» «root_words» keys children words frequencies logarithms)
         ≡ enterText (bookLent head «root_children» «root_words» keys children words frequencies logarithms) (charsOf (was word)) frequency ⌝ }
 {
@@ -79,7 +82,7 @@ pub fn load_entry(
     match decision {
         Decision::Refuse(outcome) => Entered { outcome, head },
         Decision::Replace(n, total) => {
-            records::set_record(frequencies, logarithms, n, frequency);
+            records::set_record(frequencies, logarithms, n, frequency, logarithm);
             replaced(head, total)
         }
         Decision::Insert(slots, nodes, total) => {
@@ -95,7 +98,7 @@ pub fn load_entry(
                 head.next as u32,
                 n as i32,
             );
-            records::set_record(frequencies, logarithms, n as usize, frequency);
+            records::set_record(frequencies, logarithms, n as usize, frequency, logarithm);
             Entered {
                 outcome: Outcome::Done,
                 head: Head {

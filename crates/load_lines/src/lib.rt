@@ -3,6 +3,7 @@ ghost use mathlib.Core.Path.{_≡_};
 ghost use mathlib.Core.Bool.{true};
 ghost use Prim.Native.Nat.{_-_, _≤_};
 ghost use lib.ListN.{length};
+ghost use Rattle.logs.specs.Table.{isLogTable};
 ghost use Rattle.trie.specs.Trie.{log2};
 ghost use Rattle.trie.specs.Lent.{was};
 ghost use Rattle.book.specs.Areas.{bookLent, bookLeft};
@@ -14,6 +15,7 @@ use book::Head;
 use book::Outcome;
 use entry::Entered;
 use lines::Line;
+use logs::LogTable;
 
 // What a load answers.
 pub struct Loaded {
@@ -22,7 +24,8 @@ pub struct Loaded {
     pub head: Head,
 }
 
-// A line of a dictionary enters, or is refused and leaves everything as it was. A blank one is passed over.
+// A line of a dictionary enters, or is refused and leaves everything as it was. A blank one is passed over. The logarithm of a
+// frequency is looked up in the table, which the loop below lends to every line.
 fn load_line(
     head: Head,
     root_children: &mut [u32],
@@ -34,10 +37,11 @@ fn load_line(
     logarithms: &mut [f64],
     shift: u32,
     line: &[u8],
+    table: &LogTable,
 ) -> Entered
     requires { ⌜ allowed (length (now «root_children»)) (length (now «root_words»)) (length (now keys)) (length (now children)) (length (now words))
         (length (now frequencies)) (length (now logarithms)) ≡ true ⌝ }
-    requires { ⌜ (shift ≡ 64 - log2 (length (now keys))) × (length (now line) ≤ longestText) ⌝ }
+    requires { ⌜ (shift ≡ 64 - log2 (length (now keys))) × (length (now line) ≤ longestText) × (isLogTable (now table) ≡ true) ⌝ }
     ensures { λ r. ⌜ enterAnswer (r .outcome) (bookLeft (r .head) «root_children» «root_words» keys children words frequencies logarithms)
         ≡ enterLine (bookLent head «root_children» «root_words» keys children words frequencies logarithms) (was line) ⌝ }
 {
@@ -55,6 +59,7 @@ fn load_line(
             head,
         },
         Line::Entry(start, end, frequency) => {
+            let logarithm = logs::log_by(table, frequency);
             let entered = entry::load_entry(
                 head,
                 root_children,
@@ -67,6 +72,7 @@ fn load_line(
                 shift,
                 &line[start..end],
                 frequency,
+                logarithm,
             );
             let outcome = entered.outcome;
             // Number by number: copied as a whole right after it was written, the head waits for the writes before it.
@@ -102,6 +108,7 @@ pub fn load_lines(
     ensures { λ r. ⌜ loadAnswer (r .outcome) (r .line) (bookLeft (r .head) «root_children» «root_words» keys children words frequencies logarithms)
         ≡ linesLoaded (bookLent head «root_children» «root_words» keys children words frequencies logarithms) 0 (was text) 0 ⌝ }
 {
+    let table = logs::table();
     let mut head = head;
     let mut at: usize = 0;
     let mut line: usize = 0;
@@ -119,6 +126,7 @@ pub fn load_lines(
             logarithms,
             shift,
             &text[at..end],
+            &table,
         );
         let outcome = entered.outcome;
         head = entered.head;

@@ -23,11 +23,18 @@ pub fn next_record(head: Head) -> u64
 }
 
 // A record's frequency, and the logarithm that goes with it.
-pub fn set_record(frequencies: &mut [u32], logarithms: &mut [f64], n: usize, frequency: u32)
-    requires { ⌜ (n < length (now frequencies)) × (n < length (now logarithms)) ⌝ }
-    requires { ⌜ (length (now frequencies) ≤ mostRecords) × (length (now logarithms) ≤ mostRecords) ⌝ }
+pub fn set_record(
+    frequencies: &mut [u32],
+    logarithms: &mut [f64],
+    n: usize,
+    frequency: u32,
+    logarithm: f64,
+)
+    requires { ⌜ (n < length (now frequencies)) × (n < length (now logarithms)) × (length (now frequencies) ≤ mostRecords)
+        × (length (now logarithms) ≤ mostRecords) ⌝ }
+    requires { ⌜ logarithm ≡ logFloat frequency ⌝ }
     ensures { λ _. ⌜ (became frequencies ≡ set (was frequencies) n frequency) × (became logarithms ≡ set (was logarithms) n (logFloat frequency)) ⌝ }
 {
     frequencies[n] = frequency;
-    logarithms[n] = score::log(frequency);
+    logarithms[n] = logarithm;
 }

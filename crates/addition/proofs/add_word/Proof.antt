@@ -57,16 +57,23 @@ shift-of-requires c κs =
     let word = passed (tested .test-word .ensures) (told .enum-told2 .given .1) in
     slot-count _ _ _ _ _ _ _ (word .sized)
 
+cast-log : tie.Need-cast-log
+cast-log c = search needs
+
+log-requires : tie.Need-log-requires
+log-requires c κs = search needs
+
 cast-load-entry : tie.Need-cast-load-entry
 cast-load-entry c = search needs
 
 load-entry-requires : tie.Need-load-entry-requires
 load-entry-requires c κs =
-    let shifted = c .before .before .before .before .before .before .before in
+    let logged = c .before .before .before .before .before .before .before in
+    let shifted = logged .before in
     let told = shifted .before .before in
     let tested = told .before .before in
     let word = passed (tested .test-word .ensures) (told .enum-told2 .given .1) in
-    (word .sized, (shifted .shift-of .ensures, well-formed word, word .short))
+    (word .sized, (shifted .shift-of .ensures, well-formed word, word .short, logged .log .ensures))
 
 added-by-requires : tie.Need-added-by-requires
 added-by-requires c κs = search needs
@@ -99,7 +106,7 @@ same-length-7 c = after-load-entry c .load-entry .kept .1 .1 .1 .1 .1 .1 .1 .0
 returns-4 : tie.Need-returns-4
 returns-4 c =
     let enters = c .before .before .before .before .before .before .before .before .before .before .before .before .before in
-    let shifted = enters .before .before .before .before .before .before .before .before in
+    let shifted = enters .before .before .before .before .before .before .before .before .before in
     let fits = shifted .before in
     let told = fits .before in
     let tested = told .before .before in
@@ -121,6 +128,8 @@ add-word-spec =
     not-added-requires-3
     returns-3
     shift-of-requires
+    cast-log
+    log-requires
     cast-load-entry
     load-entry-requires
     added-by-requires

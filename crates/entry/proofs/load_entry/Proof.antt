@@ -99,7 +99,7 @@ enum-known-decision-2 c = search needs
 set-record-requires : tie.Need-set-record-requires
 set-record-requires c κs =
     let passed = replacing (replaces c) in
-    omega (arith, held (replaces c), within passed, few-records (book passed))
+    (omega (arith, held (replaces c), within passed, few-records (book passed)), book passed .pre .1 .3)
 
 replaced-requires : tie.Need-replaced-requires
 replaced-requires c κs = search needs
@@ -125,20 +125,22 @@ insert-requires c κs =
     (insert-sizes _ _ _ _ _ _ _ _ (pre .0) (pre .1 .0), (pre .1 .1, omega (arith, within passed, pre .1)))
 
 set-record-requires-2 : tie.Need-set-record-requires-2
-set-record-requires-2 c κs = omega (arith, numbered (inserted c .before) .next-record .ensures, room (chosen c), few-records (book (inserting (chosen c))))
-
-add-t62 : tie.Need-add-t62
-add-t62 c =
-    let decision = chosen (stored c .before) in
-    omega (arith, room decision, few-records (book (inserting decision)))
+set-record-requires-2 c κs =
+    let lent = book (inserting (chosen c)) in
+    (omega (arith, numbered (inserted c .before) .next-record .ensures, room (chosen c), few-records lent), lent .pre .1 .3)
 
 add-t63 : tie.Need-add-t63
 add-t63 c =
+    let decision = chosen (stored c .before) in
+    omega (arith, room decision, few-records (book (inserting decision)))
+
+add-t64 : tie.Need-add-t64
+add-t64 c =
     let decision = chosen (stored (c .before) .before) in
     omega (arith, room decision, slots-most _ _ _ _ _ _ _ (book (inserting decision) .pre .0))
 
-add-t64 : tie.Need-add-t64
-add-t64 c = omega (arith, room (chosen (stored (c .before .before) .before)))
+add-t65 : tie.Need-add-t65
+add-t65 c = omega (arith, room (chosen (stored (c .before .before) .before)))
 
 -- where the call has returned, which says how long the areas are
 abbrev after-set-record : tie.After-replaced → tie.After-set-record
@@ -258,9 +260,9 @@ load-entry-spec =
     cast-insert-2
     insert-requires
     set-record-requires-2
-    add-t62
     add-t63
     add-t64
+    add-t65
     same-length
     same-length-2
     same-length-3

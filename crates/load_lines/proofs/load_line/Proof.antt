@@ -7,13 +7,16 @@ use Rattle.load_lines.proofs.Lines.{line-malformed, line-blank, line-ba
 use Rattle.load_lines.proofs.load_line.Statement.{statement}
 use Rattle.load_lines.proofs.load_line.Tie as tie
 
--- ---- the places of the code: the book and the line are lent, the line is parsed, and it has a word
+-- ---- the places of the code: the book and the line are lent, the line is parsed, it has a word, and the logarithm is looked up
 
 abbrev lent : tie.After-parse-line → tie.Start
 lent c = c .before .before .before .before .before .before .before
 
+abbrev logged : tie.After-load-entry-arg7 → tie.After-log-by
+logged c = c .before .before .before .before .before .before .before
+
 abbrev has-word : tie.After-load-entry-arg7 → tie.After-start
-has-word c = c .before .before .before .before .before .before .before .before
+has-word c = logged c .before .before
 
 -- the word is a part of the line
 module _ (c : tie.After-start) where
@@ -38,6 +41,9 @@ enum-told-3 c = search needs
 enum-known-start : tie.Need-enum-known-start
 enum-known-start c = search needs
 
+log-by-requires : tie.Need-log-by-requires
+log-by-requires c κs = lent (parsed (c .before)) .pre .1 .2
+
 sub-load-entry : tie.Need-sub-load-entry
 sub-load-entry c = inside (has-word c) .0
 
@@ -51,8 +57,15 @@ load-entry-requires : tie.Need-load-entry-requires
 load-entry-requires c κs =
     let word = has-word (c .before) in
     let says = parsed word .parse-line .ensures in
-    let pre = lent (parsed word) .pre in
-    (pre .0, (pre .1 .0, word-chars _ says (word .start .given .1), word-short _ says (word .start .given .1) _ (pre .1 .1)))
+    let pre = lent (parsed word) .pre in (
+      pre .0,
+      (
+        pre .1 .0,
+        word-chars _ says (word .start .given .1),
+        word-short _ says (word .start .given .1) _ (pre .1 .1),
+        logged (c .before) .log-by .ensures,
+      ),
+    )
 
 returns : tie.Need-returns
 returns c = line-malformed _ _ (c .before .before .parse-line .ensures) (c .enum-told .given .1)
@@ -103,6 +116,7 @@ load-line-spec =
     enum-told-2
     enum-told-3
     enum-known-start
+    log-by-requires
     sub-load-entry
     part-load-entry-start
     part-load-entry-end

@@ -12,23 +12,26 @@ use Rattle.load_lines.proofs.load_lines.Statement.{statement}
 use Rattle.load_lines.proofs.load_lines.Tie as tie
 
 abbrev Inv-loop : tie.InvT-loop
-Inv-loop root-children₀ root-words₀ keys₀ children₀ words₀ frequencies₀ logarithms₀ shift text head₀ at₀ line₀ root-children root-words keys children
+Inv-loop root-children₀ root-words₀ keys₀ children₀ words₀ frequencies₀ logarithms₀ shift text table head₀ at₀ line₀ root-children root-words keys children
     words frequencies logarithms head at line =
     Loading (bookOf head₀ (trieOf root-children₀ root-words₀ keys₀ children₀ words₀) frequencies₀ logarithms₀) text
     (bookOf head (trieOf root-children root-words keys children words) frequencies logarithms) line at
 
 abbrev μ-loop : tie.MeasureT-loop
-μ-loop root-children₀ root-words₀ keys₀ children₀ words₀ frequencies₀ logarithms₀ shift text head₀ at₀ line₀ root-children root-words keys children
+μ-loop root-children₀ root-words₀ keys₀ children₀ words₀ frequencies₀ logarithms₀ shift text table head₀ at₀ line₀ root-children root-words keys children
     words frequencies logarithms head at line =
     length text + 1 - at
+
+table-requires : tie.Need-table-requires Inv-loop μ-loop
+table-requires c κs = search needs
 
 loop-holds : tie.Need-loop-holds Inv-loop μ-loop
 loop-holds c = begins _ _
 
--- ---- the places of the code: the book and the text are lent, and a turn finds a line's end, enters the line and tests the answer
+-- ---- the places of the code: the book and the text are lent, the table is there, and a turn finds a line's end, enters the line and tests the answer
 
 abbrev lent : tie.At-loop Inv-loop μ-loop → tie.Start Inv-loop μ-loop
-lent c = c .before .before .before .before .before .before .before
+lent c = c .before .before .before .before .before .before .before .before
 
 abbrev ended : tie.After-load-line-arg7 Inv-loop μ-loop → tie.After-line-end Inv-loop μ-loop
 ended c = c .before .before .before .before .before .before .before
@@ -61,13 +64,14 @@ part-load-line-end c = omega (arith, inside (ended c))
 
 load-line-requires : tie.Need-load-line-requires Inv-loop μ-loop
 load-line-requires c κs =
-    let line = ended (c .before) in
+    let line = ended (c .before .before) in
     let loading = turn line .loop .inv in
     let pre = lent (turn line) .pre in (
       still-sized (loading .long) (pre .0),
       (
         rw (loading .long .tables .keys) (pre .1 .0),
         line-short loading (line .before .loop-test .taken) (line .line-end .ensures) (pre .1 .1),
+        turn line .before .table .ensures,
       ),
     )
 
@@ -75,45 +79,45 @@ is-done-requires : tie.Need-is-done-requires Inv-loop μ-loop
 is-done-requires c κs = search needs
 
 same-length : tie.Need-same-length Inv-loop μ-loop
-same-length c = entered (c .before) .load-line .kept .1 .0 ∙ turn (ended (entered (c .before) .before .before)) .loop .inv .long .tables .rootChildren
+same-length c = entered (c .before) .load-line .kept .1 .0 ∙ turn (ended (entered (c .before) .before .before .before)) .loop .inv .long .tables .rootChildren
 
 same-length-2 : tie.Need-same-length-2 Inv-loop μ-loop
-same-length-2 c = entered (c .before) .load-line .kept .1 .1 .0 ∙ turn (ended (entered (c .before) .before .before)) .loop .inv .long .tables .rootWords
+same-length-2 c = entered (c .before) .load-line .kept .1 .1 .0 ∙ turn (ended (entered (c .before) .before .before .before)) .loop .inv .long .tables .rootWords
 
 same-length-3 : tie.Need-same-length-3 Inv-loop μ-loop
-same-length-3 c = entered (c .before) .load-line .kept .1 .1 .1 .0 ∙ turn (ended (entered (c .before) .before .before)) .loop .inv .long .tables .keys
+same-length-3 c = entered (c .before) .load-line .kept .1 .1 .1 .0 ∙ turn (ended (entered (c .before) .before .before .before)) .loop .inv .long .tables .keys
 
 same-length-4 : tie.Need-same-length-4 Inv-loop μ-loop
-same-length-4 c = entered (c .before) .load-line .kept .1 .1 .1 .1 .0 ∙ turn (ended (entered (c .before) .before .before)) .loop .inv .long .tables .children
+same-length-4 c = entered (c .before) .load-line .kept .1 .1 .1 .1 .0 ∙ turn (ended (entered (c .before) .before .before .before)) .loop .inv .long .tables .children
 
 same-length-5 : tie.Need-same-length-5 Inv-loop μ-loop
-same-length-5 c = entered (c .before) .load-line .kept .1 .1 .1 .1 .1 .0 ∙ turn (ended (entered (c .before) .before .before)) .loop .inv .long .tables .words
+same-length-5 c = entered (c .before) .load-line .kept .1 .1 .1 .1 .1 .0 ∙ turn (ended (entered (c .before) .before .before .before)) .loop .inv .long .tables .words
 
 same-length-6 : tie.Need-same-length-6 Inv-loop μ-loop
-same-length-6 c = entered (c .before) .load-line .kept .1 .1 .1 .1 .1 .1 .0 ∙ turn (ended (entered (c .before) .before .before)) .loop .inv .long .frequencies
+same-length-6 c = entered (c .before) .load-line .kept .1 .1 .1 .1 .1 .1 .0 ∙ turn (ended (entered (c .before) .before .before .before)) .loop .inv .long .frequencies
 
 same-length-7 : tie.Need-same-length-7 Inv-loop μ-loop
-same-length-7 c = entered (c .before) .load-line .kept .1 .1 .1 .1 .1 .1 .1 .0 ∙ turn (ended (entered (c .before) .before .before)) .loop .inv .long .logarithms
+same-length-7 c = entered (c .before) .load-line .kept .1 .1 .1 .1 .1 .1 .1 .0 ∙ turn (ended (entered (c .before) .before .before .before)) .loop .inv .long .logarithms
 
 returns : tie.Need-returns Inv-loop μ-loop
 returns c =
     let answer = entered (c .before) in
-    let line = ended (answer .before .before) in
+    let line = ended (answer .before .before .before) in
     stops (turn line .loop .inv) (line .before .loop-test .taken) (line .line-end .ensures) (answer .load-line .ensures) (c .before .is-done .ensures)
     (c .if1 .taken)
 
 add-at : tie.Need-add-at Inv-loop μ-loop
 add-at c =
-    let line = ended (entered (c .before) .before .before) in
+    let line = ended (entered (c .before) .before .before .before) in
     omega (arith, lent (turn line) .pre .1 .1, inside line)
 
 loop-less : tie.Need-loop-less Inv-loop μ-loop
-loop-less c = omega (arith, inside (ended (entered (c .before) .before .before)))
+loop-less c = omega (arith, inside (ended (entered (c .before) .before .before .before)))
 
 loop-again : tie.Need-loop-again Inv-loop μ-loop
 loop-again c =
     let answer = entered (c .before) in
-    let line = ended (answer .before .before) in
+    let line = ended (answer .before .before .before) in
     goes-on (turn line .loop .inv) (line .before .loop-test .taken) (line .line-end .ensures) (answer .load-line .ensures)
     (c .before .is-done .ensures) (c .if1 .left)
     (kept-long _ _ (answer .load-line .kept))
@@ -148,6 +152,7 @@ load-lines-spec =
     (tie.spec
     Inv-loop
     μ-loop
+    table-requires
     loop-holds
     line-end-requires
     add-line

@@ -1,5 +1,6 @@
--- `records::set_record` meets its contract: two stores. Assumes nothing.
-use mathlib.Core.Path.{refl}
+-- `records::set_record` meets its contract: two stores, the second of the logarithm that goes with the frequency. Assumes nothing.
+use mathlib.Core.Path.{refl, ap}
+use lib.ListN.{set}
 use borrow.Author.Needs.{needs}
 use Rattle.records.proofs.set_record.Statement.{statement}
 use Rattle.records.proofs.set_record.Tie as tie
@@ -9,9 +10,6 @@ mul-frequencies c = search needs
 
 slice-write-frequencies : tie.Need-slice-write-frequencies
 slice-write-frequencies c = search needs
-
-log-requires : tie.Need-log-requires
-log-requires c κs = search needs
 
 mul-logarithms : tie.Need-mul-logarithms
 mul-logarithms c = search needs
@@ -26,7 +24,7 @@ same-length-2 : tie.Need-same-length-2
 same-length-2 c = search needs
 
 returns : tie.Need-returns
-returns c = (refl, rw (c .log .ensures))
+returns c = (refl, ap (set (c .args .logarithms .now) (c .args .n)) (c .pre .1))
 
 pub set-record-spec : {M : Type 1} → statement M
 set-record-spec =
@@ -34,7 +32,6 @@ set-record-spec =
     (tie.spec
     mul-frequencies
     slice-write-frequencies
-    log-requires
     mul-logarithms
     slice-write-logarithms
     same-length
