@@ -42,7 +42,7 @@ fn print_looked_up(table: &LogTable, n: u32)
     print_log(n, logs::log_by(table, n));
 }
 
-// Of how many numbers from 0 up, before the first that is looked up otherwise than worked out; at most 3,000.
+// How many numbers from 0 up are looked up as they are worked out, before the first that is not; at most 3,000.
 fn alike(table: &LogTable) -> u32
     requires { ⌜ isLogTable (now table) ≡ true ⌝ }
 {
