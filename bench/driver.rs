@@ -81,7 +81,7 @@ struct Areas {
 
 impl Areas {
     fn new(bytes: usize) -> Self {
-        Areas { work: Work::new(bytes, 4 * bytes), length: bytes + 1, tokens: vec![0; 4 * (3 * bytes + 16)] }
+        Areas { work: Work::new(bytes, 4 * bytes), length: bytes + 1, tokens: vec![0; 6 * (3 * bytes + 16)] }
     }
 
     fn cut(&mut self, book: &Book, sentence: &str) -> usize {

@@ -29,9 +29,9 @@
  * its own, while none prepares, loads or adds.
  *
  * Stack: a load took 5,128 bytes below the caller's frame, its arguments with them; 4,096 of these hold the table of
- * logarithms. Any other call took at most 904 (add 904, the cuts 776, lookup 504, cut_all 328, prepare 152). Keep 8,192 free
+ * logarithms. Any other call took at most 904 (add 904, the cuts 808, lookup 504, cut_all 360, prepare 152). Keep 8,192 free
  * for a load and 2,048 for the other calls. This was measured on one build, with a caller compiled by gcc -O2 (by -O0 it was
- * 5,240 and 1,048), and is not proved. Nothing in the library calls itself, so it does not grow with the input.
+ * 5,240 and 1,080), and is not proved. Nothing in the library calls itself, so it does not grow with the input.
  *
  * Time: at each character of a sentence a cut follows the longest beginning of a stored word that stands there, with a probe
  * for each character of it: a few slots as a rule, all of them at worst. So it takes up to the sentence's characters times
@@ -107,8 +107,8 @@ extern "C" {
 #define TONGSVALE_GREATEST_TOTAL UINT32_C(4294967295)
 
 #define TONGSVALE_HEAD_LENGTH 4
-/* The numbers of a token: start and end in characters, then start and end in bytes. */
-#define TONGSVALE_TOKEN_WIDTH 4
+/* The numbers of a token: start and end in characters, then in bytes, then in UTF-16 code units. */
+#define TONGSVALE_TOKEN_WIDTH 6
 
 /* ---- sizes: constant where their arguments are; an argument may be evaluated more than once */
 
@@ -134,11 +134,11 @@ extern "C" {
 /* Bytes of a book: the head, 8 an entry of the root table, 16 a slot, 12 a record. */
 #define TONGSVALE_BOOK_BYTES(roots, slots, records) \
     (32 + (size_t)(roots) * 8 + (size_t)(slots) * 16 + (size_t)(records) * 12)
-/* Bytes of the work area of so many characters, of so many edge places, and of so many token places. cut_all needs only 8 of
- * each 32 bytes of the first, and no edge area. */
-#define TONGSVALE_WORK_BYTES(characters) (((size_t)(characters) + 1) * 32)
+/* Bytes of the work area of so many characters, of so many edge places, and of so many token places. cut_all needs only 12 of
+ * each 36 bytes of the first, and no edge area. */
+#define TONGSVALE_WORK_BYTES(characters) (((size_t)(characters) + 1) * 36)
 #define TONGSVALE_EDGE_BYTES(edges) ((size_t)(edges) * 8)
-#define TONGSVALE_TOKEN_BYTES(places) ((size_t)(places) * 16)
+#define TONGSVALE_TOKEN_BYTES(places) ((size_t)(places) * 24)
 
 /* ---- what is returned */
 
@@ -209,10 +209,12 @@ struct tongsvale_cut_result {
     size_t count; /* the tokens written */
 };
 
-/* A token: its start and its end (the place after it) in the sentence, counted in characters and in bytes. */
+/* A token: its start and its end (the place after it) in the sentence, counted in characters, in bytes, and in UTF-16 code
+ * units. A character from U+10000 on is two units, any other is one: so a browser counts, whose strings are UTF-16. */
 struct tongsvale_token {
     uint32_t char_start, char_end;
     uint32_t byte_start, byte_end;
+    uint32_t utf16_start, utf16_end;
 };
 
 /* ---- what is lent */
@@ -237,7 +239,7 @@ struct tongsvale_book {
 struct tongsvale_work {
     size_t work_length; /* at least the sentence's characters + 1 */
     uint32_t *chars;
-    uint32_t *offsets;
+    uint64_t *offsets; /* in bytes the lower 32 bits, in UTF-16 code units the upper */
     size_t *starts; /* places in the edge area */
     double *scores;
     uint32_t *ends;
@@ -266,7 +268,7 @@ struct tongsvale_work {
 /* The same for the work area of sentences of up to so many characters, with so many edges and token places. */
 #define TONGSVALE_STATIC_WORK(name, characters, edges, places) \
     static uint32_t name##_chars[(characters) + 1]; \
-    static uint32_t name##_offsets[(characters) + 1]; \
+    static uint64_t name##_offsets[(characters) + 1]; \
     static size_t name##_starts[(characters) + 1]; \
     static double name##_scores[(characters) + 1]; \
     static uint32_t name##_ends[(characters) + 1]; \
@@ -281,7 +283,7 @@ struct tongsvale_work {
 /* The token i of the work area, which is below the count that the cut returned. */
 static inline struct tongsvale_token tongsvale_token_at(const struct tongsvale_work *work, size_t i) {
     const uint32_t *numbers = work->tokens + i * TONGSVALE_TOKEN_WIDTH;
-    struct tongsvale_token token = { numbers[0], numbers[1], numbers[2], numbers[3] };
+    struct tongsvale_token token = { numbers[0], numbers[1], numbers[2], numbers[3], numbers[4], numbers[5] };
     return token;
 }
 
@@ -369,7 +371,7 @@ struct tongsvale_cut_result tongsvale_cut(
     const double *logarithms, size_t logarithms_length,
     const uint8_t *sentence, size_t sentence_length,
     uint32_t *chars, size_t chars_length,
-    uint32_t *offsets, size_t offsets_length,
+    uint64_t *offsets, size_t offsets_length,
     size_t *starts, size_t starts_length,
     double *scores, size_t scores_length,
     uint32_t *ends, size_t ends_length,
@@ -393,7 +395,7 @@ struct tongsvale_cut_result tongsvale_cut_for_search(
     const double *logarithms, size_t logarithms_length,
     const uint8_t *sentence, size_t sentence_length,
     uint32_t *chars, size_t chars_length,
-    uint32_t *offsets, size_t offsets_length,
+    uint64_t *offsets, size_t offsets_length,
     size_t *starts, size_t starts_length,
     double *scores, size_t scores_length,
     uint32_t *ends, size_t ends_length,
@@ -420,7 +422,7 @@ struct tongsvale_cut_result tongsvale_tokenize(
     const uint8_t *sentence, size_t sentence_length,
     uint32_t mode,
     uint32_t *chars, size_t chars_length,
-    uint32_t *offsets, size_t offsets_length,
+    uint64_t *offsets, size_t offsets_length,
     size_t *starts, size_t starts_length,
     double *scores, size_t scores_length,
     uint32_t *ends, size_t ends_length,
@@ -446,7 +448,7 @@ struct tongsvale_cut_result tongsvale_cut_all(
     const double *logarithms, size_t logarithms_length,
     const uint8_t *sentence, size_t sentence_length,
     uint32_t *chars, size_t chars_length,
-    uint32_t *offsets, size_t offsets_length,
+    uint64_t *offsets, size_t offsets_length,
     uint32_t *tokens, size_t tokens_length);
 
 /* ---- the wrappers */

@@ -1,6 +1,6 @@
 """What the program `checks` must print, computed without it.
 
-UTF-8 is asked of Python's own strict codec, the classes of characters are document 01's ranges written out, lines and
+UTF-8 and UTF-16 are asked of Python's own strict codecs, the classes of characters are document 01's ranges written out, lines and
 frequencies follow its rules on Python's characters, and the logarithm L is its definition in whole numbers. Nothing here comes from the Rattle code.
 
 From the repository's root, to write the file that the gate compares with:
@@ -36,7 +36,7 @@ def maximal_ranges(answers):
             first = i
 
 
-# ---- UTF-8, by Python's codec
+# ---- UTF-8 and UTF-16, by Python's codecs
 
 
 def decoded(text):
@@ -62,7 +62,8 @@ def shown(character):
     if isinstance(character, str):
         return character
     value, width = character
-    return f"char U+{value:04X}, {number_of(width, 'byte')}"
+    units = len(chr(value).encode("utf-16-le", "strict")) // 2
+    return f"char U+{value:04X}, {number_of(width, 'byte')}, {number_of(units, 'unit')}"
 
 
 def read(text):

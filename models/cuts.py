@@ -195,10 +195,19 @@ def tokens_of_cut_all(walks, block, in_class):
 # ---- a cut
 
 
+# The numbers of a token: start and end in characters, in bytes, and in UTF-16 code units (note 6 of document 02).
+TOKEN_WIDTH = 6
+
+
+def units(text):
+    """UTF-16 code units: two for a character from U+10000 on, one for any other."""
+    return sum(1 if ord(c) < 0x10000 else 2 for c in text)
+
+
 def test(book, work, area, sentence):
     """1, 2, 3, 9, 8 for the head, in this order; the sentence's characters."""
     book.test_sizes()
-    if len(area) % 4 != 0:
+    if len(area) % TOKEN_WIDTH != 0:
         raise Refused(1)
     if len(sentence) > 16777215:
         raise Refused(2)
@@ -212,10 +221,14 @@ def test(book, work, area, sentence):
 
 
 def write(area, count, sentence, start, end):
-    if count * 4 == len(area):
+    at = count * TOKEN_WIDTH
+    if at == len(area):
         raise Refused(11)
-    before, within = len(sentence[:start].encode()), len(sentence[start:end].encode())
-    area[count * 4 : count * 4 + 4] = [start, end, before, before + within]
+    before, token = sentence[:start], sentence[start:end]
+    bytes_before, units_before = len(before.encode()), units(before)
+    area[at : at + TOKEN_WIDTH] = [
+        start, end, bytes_before, bytes_before + len(token.encode()), units_before, units_before + units(token),
+    ]  # fmt: skip
 
 
 def tokens_of(kind, walks, block, in_class, room):
@@ -268,7 +281,7 @@ def answer(book, words, command):
     except Refused as refused:
         number, count = refused.number, 0
         kept = "; work unchanged" if kind == ALL else "; work and edges unchanged"
-    places = "".join((" | " if i % 4 == 0 else " ") + str(x) for i, x in enumerate(area))
+    places = "".join((" | " if i % TOKEN_WIDTH == 0 else " ") + str(x) for i, x in enumerate(area))
     return f"{number}, tokens {count}{places}{kept}"
 
 

@@ -18,7 +18,7 @@ import os
 import re
 
 from books import WHITE_SPACE, Book, Refused
-from cuts import ALL, CUT, SEARCH, Areas, Words, cut, test
+from cuts import ALL, CUT, SEARCH, TOKEN_WIDTH, Areas, Words, cut, test
 
 INPUT = os.path.join(os.path.dirname(__file__), "..", "crates", "cutlines", "stdin")
 LOAD = "load"
@@ -63,14 +63,14 @@ class Run:
 
     def cut(self, kind, sentence):
         """The number, and the tokens that were written."""
-        area, again = [7] * (PLACES * 4), [7] * (PLACES * 4)
+        area, again = [7] * (PLACES * TOKEN_WIDTH), [7] * (PLACES * TOKEN_WIDTH)
         try:
             characters = test(self.book, WORK, area, sentence)
         except Refused as refused:
             return refused.number, []
         number, count = cut(Areas(self.book), characters, kind, EDGES, area)
         assert (number, count) == cut(self.plain, characters, kind, EDGES, again) and area == again, sentence
-        return number, area[: count * 4]
+        return number, area[: count * TOKEN_WIDTH]
 
     def answer(self, line):
         frame = frame_of(line)
@@ -81,7 +81,7 @@ class Run:
             number, count = self.load(text)
             return f"{number:02x}{count:04x}"
         number, tokens = self.cut(kind, text)
-        return f"{number:02x}{len(tokens) // 4:04x}" + "".join(f"{n:04x}" for n in tokens)
+        return f"{number:02x}{len(tokens) // TOKEN_WIDTH:04x}" + "".join(f"{n:04x}" for n in tokens)
 
 
 if __name__ == "__main__":

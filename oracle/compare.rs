@@ -8,6 +8,8 @@
 //! G, H and I, which note 9 of document 02 adds to Han, it has these among its ranges too (jieba_rare). The Rust as it is (jieba_ln)
 //! is only asked which sentences it cuts otherwise. Every made-up book and sentence comes from one fixed seed. The program ends with
 //! 1 if there was a difference.
+//!
+//! The Rust has no UTF-16 offsets (note 6 of document 02). They are worked out from its own words, by Rust's own encoder.
 
 mod library;
 
@@ -24,20 +26,52 @@ const SEED: u64 = 20_261_115;
 const GREATEST: u64 = 4_294_967_295;
 /// A number that no token of the compared sentences has, to see that later places keep what they held.
 const UNTOUCHED: u32 = 0xFFFF_FFF0;
+/// The numbers of a token.
+const TOKEN_WIDTH: usize = 6;
 
 // ---- the Rust's side
 
-/// One build of the Rust. Tokens are flat, as in the library: character start and end, byte start and end.
+/// The UTF-16 code units of a text.
+fn units(text: &str) -> usize {
+    text.encode_utf16().count()
+}
+
+/// How far a sentence has been counted: a byte offset, and the code units before it. The next offset is counted from there, forth
+/// or back, so that a long sentence is counted about once.
+#[derive(Default)]
+struct Counted {
+    byte: usize,
+    units: usize,
+}
+
+impl Counted {
+    /// The code units before a byte of the sentence.
+    fn to(&mut self, sentence: &str, byte: usize) -> usize {
+        if self.byte <= byte {
+            self.units += units(&sentence[self.byte..byte]);
+        } else {
+            self.units -= units(&sentence[byte..self.byte]);
+        }
+        self.byte = byte;
+        self.units
+    }
+}
+
+/// One build of the Rust. Tokens are flat, as in the library: character start and end, byte start and end, UTF-16 start and end.
 macro_rules! rust_side {
     ($name:ident, $build:ident) => {
         mod $name {
             pub struct Rust($build::Jieba);
 
             fn numbers(sentence: &str, tokens: Vec<$build::Token>) -> Vec<u32> {
-                let mut numbers = Vec::with_capacity(4 * tokens.len());
+                let mut numbers = Vec::with_capacity(super::TOKEN_WIDTH * tokens.len());
+                let mut counted = super::Counted::default();
                 for token in tokens {
                     assert_eq!(token.word, &sentence[token.byte_start..token.byte_end]);
-                    numbers.extend([token.start, token.end, token.byte_start, token.byte_end].map(|n| n as u32));
+                    let utf16_start = counted.to(sentence, token.byte_start);
+                    let utf16_end = utf16_start + super::units(token.word);
+                    let offsets = [token.start, token.end, token.byte_start, token.byte_end, utf16_start, utf16_end];
+                    numbers.extend(offsets.map(|n| n as u32));
                 }
                 numbers
             }
@@ -279,6 +313,8 @@ struct Comparison {
     cuts_for_search: u64,
     cuts_all: u64,
     tokens: u64,
+    /// Those whose UTF-16 offsets are other numbers than their character offsets.
+    shifted: u64,
     rare: Rare,
     differences: u64,
     work: Option<Work>,
@@ -411,7 +447,7 @@ impl Comparison {
 
             let mut lent = std::mem::take(&mut self.lent);
             lent.clear();
-            lent.resize(cut.len() + 4 * spare, UNTOUCHED);
+            lent.resize(cut.len() + TOKEN_WIDTH * spare, UNTOUCHED);
             let answer = match by_mode {
                 false => sized.book.cut(sentence.as_bytes(), &mut work, length, &mut lent),
                 true => sized.book.tokenize(sentence.as_bytes(), TokenizeMode::Default, &mut work, length, &mut lent),
@@ -420,7 +456,7 @@ impl Comparison {
             self.check(plan, sized, "cut", sentence, &cut, &answer, &lent);
 
             lent.clear();
-            lent.resize(searched.len() + 4 * spare, UNTOUCHED);
+            lent.resize(searched.len() + TOKEN_WIDTH * spare, UNTOUCHED);
             let answer = match by_mode {
                 false => sized.book.cut_for_search(sentence.as_bytes(), &mut work, length, &mut lent),
                 true => sized.book.tokenize(sentence.as_bytes(), TokenizeMode::Search, &mut work, length, &mut lent),
@@ -429,14 +465,18 @@ impl Comparison {
             self.check(plan, sized, "cut_for_search", sentence, &searched, &answer, &lent);
 
             lent.clear();
-            lent.resize(cut_all.len() + 4 * spare, UNTOUCHED);
+            lent.resize(cut_all.len() + TOKEN_WIDTH * spare, UNTOUCHED);
             let answer = sized.book.cut_all(sentence.as_bytes(), &mut work, length, &mut lent);
             self.cuts_all += 1;
             self.check(plan, sized, "cut_all", sentence, &cut_all, &answer, &lent);
             self.lent = lent;
         }
-        assert!(searched.len() / 4 <= chars * 7 / 3, "search has more tokens than 7 thirds of the characters: {sentence:?}");
-        self.tokens += ((cut.len() + searched.len() + cut_all.len()) / 4 * books.len()) as u64;
+        assert!(searched.len() / TOKEN_WIDTH <= chars * 7 / 3, "search has more tokens than 7 thirds of the characters: {sentence:?}");
+        for tokens in [&cut, &searched, &cut_all] {
+            let shifted = tokens.chunks(TOKEN_WIDTH).filter(|token| token[4..6] != token[..2]).count();
+            self.tokens += (tokens.len() / TOKEN_WIDTH * books.len()) as u64;
+            self.shifted += (shifted * books.len()) as u64;
+        }
         self.sentences += 1;
         self.work = Some(work);
     }
@@ -444,7 +484,7 @@ impl Comparison {
     #[allow(clippy::too_many_arguments)]
     fn check(&mut self, plan: &Plan, sized: &Sized, call: &str, sentence: &str, rust: &[u32], answer: &library::Cut, lent: &[u32]) {
         let same = answer.number == 0
-            && answer.count * 4 == rust.len()
+            && answer.count * TOKEN_WIDTH == rust.len()
             && lent[..rust.len()] == *rust
             && lent[rust.len()..].iter().all(|&n| n == UNTOUCHED);
         if !same {
@@ -484,9 +524,9 @@ impl Comparison {
 
     fn report(&self, part: &str, since: Instant) {
         println!(
-            "{part}: {} books in {} sizes, {} sentences; {} cut, {} cut_for_search, {} cut_all, {} lookup, {} load and add answers; {} tokens; {} differences; {:.1} s",
+            "{part}: {} books in {} sizes, {} sentences; {} cut, {} cut_for_search, {} cut_all, {} lookup, {} load and add answers; {} tokens, {} of them elsewhere in UTF-16 than in characters; {} differences; {:.1} s",
             self.books, self.sized_books, self.sentences, self.cuts, self.cuts_for_search, self.cuts_all, self.lookups, self.calls,
-            self.tokens, self.differences, since.elapsed().as_secs_f64(),
+            self.tokens, self.shifted, self.differences, since.elapsed().as_secs_f64(),
         );
         let Rare { sentences, answers, otherwise } = self.rare;
         println!("  with characters of Extensions G, H and I: {sentences} sentences, {answers} cuts; the Rust without them cuts {otherwise} otherwise");
@@ -813,7 +853,7 @@ impl Otherwise {
 /// Tokens with a bar between two, control characters escaped.
 fn readable(sentence: &str, tokens: &[u32]) -> String {
     let words: Vec<String> =
-        tokens.chunks(4).map(|t| sentence[t[2] as usize..t[3] as usize].escape_debug().to_string()).collect();
+        tokens.chunks(TOKEN_WIDTH).map(|t| sentence[t[2] as usize..t[3] as usize].escape_debug().to_string()).collect();
     words.join("|")
 }
 
@@ -897,7 +937,7 @@ impl Sample {
 
     /// A frame, and the answer to it: the number 0, a count and the tokens' numbers.
     fn frame(&mut self, kind: u8, text: &str, count: usize, tokens: &[u32]) {
-        assert!(text.len() <= 1024 && count <= 1024 && tokens.len() <= 4 * 512, "a frame that `cutlines` cannot answer");
+        assert!(text.len() <= 1024 && count <= 1024 && tokens.len() <= TOKEN_WIDTH * 512, "a frame that `cutlines` cannot answer");
         let numbers: String = tokens.iter().map(|n| format!("{n:04x}")).collect();
         writeln!(self.list, "{kind:02x}{}", hexadecimal(text.as_bytes())).unwrap();
         writeln!(self.answers, "00{count:04x}{numbers}").unwrap();
@@ -906,7 +946,7 @@ impl Sample {
     fn cuts(&mut self, sentence: &str) {
         let Cuts { cut, search, all } = self.rust.cuts(sentence);
         for (kind, tokens) in [(2, cut), (3, all), (4, search)] {
-            self.frame(kind, sentence, tokens.len() / 4, &tokens);
+            self.frame(kind, sentence, tokens.len() / TOKEN_WIDTH, &tokens);
         }
     }
 
@@ -1008,8 +1048,8 @@ fn sample_heading() -> String {
         "\
 # The lines down to \"{OUR_OWN}\" are made by `oracle/compare FOLDER --sample` (seed {SEED}), and so are the lines
 # that answer them in `stdout`; not edited by hand. The answers are the Rust's (jieba-rs, commit bac49e65b8, with document 01's
-# logarithm L in place of ln, HMM off, and with note 9's ranges of Han for sentences that have such characters); a load's says that
-# the Rust accepted the text, and how many lines the text has.
+# logarithm L in place of ln, HMM off, and with note 9's ranges of Han for sentences that have such characters), with UTF-16 offsets
+# worked out from its words; a load's says that the Rust accepted the text, and how many lines the text has.
 "
     )
 }

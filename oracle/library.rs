@@ -65,7 +65,7 @@ impl Work {
     fn lend(&mut self, length: usize) {
         let Scratch { chars, offsets, starts, scores, ends, records, .. } = &mut self.scratch;
         chars.resize(length, 0xDEAD_BEEF);
-        offsets.resize(length, 0xDEAD_BEEF);
+        offsets.resize(length, 0xDEAD_BEEF_DEAD_BEEF);
         starts.resize(length, usize::MAX);
         scores.resize(length, f64::NAN);
         ends.resize(length, 0xDEAD_BEEF);

@@ -36,7 +36,7 @@ pub const MOST_SLOTS: usize = 4_194_304;
 pub const MOST_RECORDS: usize = 1_048_576;
 
 const HEAD_LENGTH: usize = 4;
-const TOKEN_WIDTH: usize = 4;
+const TOKEN_WIDTH: usize = 6;
 
 /// A book's areas.
 #[derive(Clone, Debug, Default, PartialEq)]
@@ -76,14 +76,14 @@ pub enum TokenizeMode {
 #[allow(missing_docs)]
 pub struct Scratch {
     pub chars: Vec<u32>,
-    pub offsets: Vec<u32>,
+    pub offsets: Vec<u64>,
     pub starts: Vec<usize>,
     pub scores: Vec<f64>,
     pub ends: Vec<u32>,
     pub records: Vec<u32>,
     pub edge_ends: Vec<u32>,
     pub edge_records: Vec<u32>,
-    /// Four numbers a token.
+    /// Six numbers a token: its start and end in characters, in bytes and in UTF-16 code units.
     pub tokens: Vec<u32>,
 }
 

@@ -1,10 +1,12 @@
 use crate::calls::Cut;
 use crate::error::{self, Stopped};
 use crate::TOKEN_WIDTH;
+use std::ops::Range;
 use std::slice::ChunksExact;
 use std::str;
 
-/// A word of a sentence. Character offsets count scalar values.
+/// A word of a sentence. Character offsets count scalar values. UTF-16 offsets count code units, as a browser's strings do: two
+/// for a character from U+10000 on, one for any other.
 #[derive(Clone, Copy, Debug, PartialEq, Eq)]
 #[allow(missing_docs)]
 pub struct Token<'s> {
@@ -13,6 +15,16 @@ pub struct Token<'s> {
     pub end: usize,
     pub byte_start: usize,
     pub byte_end: usize,
+    pub utf16_start: usize,
+    pub utf16_end: usize,
+}
+
+impl Token<'_> {
+    /// Where the word stands in the sentence's UTF-16 code units: what a browser marks.
+    #[inline]
+    pub fn utf16(&self) -> Range<usize> {
+        self.utf16_start..self.utf16_end
+    }
 }
 
 /// The tokens of a cut, in its order. They borrow the sentence, and the iterator borrows the token area.
@@ -26,7 +38,7 @@ impl<'s> Iterator for Tokens<'s, '_> {
     type Item = Token<'s>;
 
     fn next(&mut self) -> Option<Token<'s>> {
-        let &[start, end, byte_start, byte_end] = self.numbers.next()? else {
+        let &[start, end, byte_start, byte_end, utf16_start, utf16_end] = self.numbers.next()? else {
             unreachable!("chunks have the width of a token");
         };
         let (byte_start, byte_end) = (byte_start as usize, byte_end as usize);
@@ -36,6 +48,8 @@ impl<'s> Iterator for Tokens<'s, '_> {
             end: end as usize,
             byte_start,
             byte_end,
+            utf16_start: utf16_start as usize,
+            utf16_end: utf16_end as usize,
         })
     }
 

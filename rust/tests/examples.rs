@@ -79,13 +79,22 @@ fn each_mode_is_its_cut() {
 }
 
 #[test]
-fn tokens_have_both_kinds_of_offsets() {
+fn tokens_have_three_kinds_of_offsets() {
     let dictionary = book_a();
     let mut scratch = Scratch::with_sizes(7, 7, 5);
     let tokens = dictionary.cut("é!打开灯", &mut scratch).unwrap();
     assert_eq!(tokens.len(), 4);
+    // Each character is one unit of UTF-16 here; utf16.rs has those that are two.
     let expected = [("é", 0, 1, 0, 2), ("!", 1, 2, 2, 3), ("打开", 2, 4, 3, 9), ("灯", 4, 5, 9, 12)];
-    let expected = expected.map(|(word, start, end, byte_start, byte_end)| Token { word, start, end, byte_start, byte_end });
+    let expected = expected.map(|(word, start, end, byte_start, byte_end)| Token {
+        word,
+        start,
+        end,
+        byte_start,
+        byte_end,
+        utf16_start: start,
+        utf16_end: end,
+    });
     assert!(tokens.eq(expected));
     // Bytes give the same.
     assert!(dictionary.cut("é!打开灯".as_bytes(), &mut scratch).unwrap().eq(expected));

@@ -50,6 +50,7 @@ fn a_sentence_is_16_777_215_bytes_at_most() {
     let last = tokens.last().unwrap();
     assert_eq!((last.word, last.start, last.end), ("灯", 4_194_303, 4_194_304));
     assert_eq!((last.byte_start, last.byte_end), (16_777_212, 16_777_215));
+    assert_eq!((last.utf16_start, last.utf16_end), (8_388_606, 8_388_607));
     assert!(dictionary.cut_for_search(&sentence, &mut scratch).unwrap().last() == Some(last));
     // The one held word; the other characters are dropped.
     let all = dictionary.cut_all(&sentence, &mut scratch).unwrap();

@@ -103,13 +103,20 @@ fn number_1_for_a_head_of_another_length() {
 #[test]
 fn number_1_for_a_part_of_a_token() {
     let dictionary = book_a();
-    for length in [1, 2, 3, 5, 255] {
+    // Among them multiples of four, which are whole tokens without their UTF-16 offsets.
+    for length in [1, 2, 3, 4, 5, 7, 8, 16, 20, 255] {
         let mut scratch = scratch(8, 8, 64);
         scratch.tokens.truncate(length);
         assert_eq!(refused_cuts(&dictionary, "灯".as_bytes(), &scratch), 1, "{length} numbers");
         assert_eq!(refused_cuts(&dictionary, b"\xff", &scratch), 1, "{length} numbers, malformed");
     }
-    assert_eq!(words(dictionary.cut("灯", &mut scratch(2, 1, 1))), (0, vec!["灯"]));
+    for length in [6, 12] {
+        let mut scratch = scratch(8, 8, 64);
+        scratch.tokens.truncate(length);
+        for (name, cut) in CUTS {
+            assert_eq!(words(cut(&dictionary, "灯".as_bytes(), &mut scratch)), (0, vec!["灯"]), "{name}, {length} numbers");
+        }
+    }
 }
 
 const MALFORMED: [&[u8]; 14] = [
@@ -288,8 +295,8 @@ fn number_10() {
     // The tokens of earlier blocks stay, and later places hold what they held.
     let mut scratch = scratch(8, 6, 5);
     assert_eq!(words(dictionary.cut("灯!打开客厅灯", &mut scratch)), (10, vec!["灯", "!"]));
-    assert_eq!(scratch.tokens[..8], [0, 1, 0, 3, 1, 2, 3, 4]);
-    assert_eq!(scratch.tokens[8..], [909; 12]);
+    assert_eq!(scratch.tokens[..12], [0, 1, 0, 3, 0, 1, 1, 2, 3, 4, 1, 2]);
+    assert_eq!(scratch.tokens[12..], [909; 18]);
     // What search writes of earlier blocks stays too.
     let searched = words(dictionary.cut_for_search("客厅灯!打开客厅灯", &mut common::scratch(10, 6, 9)));
     assert_eq!(searched, (10, vec!["客厅", "厅灯", "客厅灯", "!"]));
@@ -310,11 +317,11 @@ fn number_11() {
         let expected = if places < one.len() { (11, one[..places].to_vec()) } else { (0, one.clone()) };
         let mut room = scratch(8, 8, places);
         assert_eq!(words(dictionary.cut(sentence, &mut room)), expected, "{places} places");
-        assert!(room.tokens[4 * expected.1.len()..].iter().all(|&n| n == 909));
+        assert!(room.tokens[6 * expected.1.len()..].iter().all(|&n| n == 909));
         let expected = if places < all.len() { (11, all[..places].to_vec()) } else { (0, all.clone()) };
         let mut room = scratch(8, 0, places);
         assert_eq!(words(dictionary.cut_all(sentence, &mut room)), expected, "{places} places, all");
-        assert!(room.tokens[4 * expected.1.len()..].iter().all(|&n| n == 909));
+        assert!(room.tokens[6 * expected.1.len()..].iter().all(|&n| n == 909));
     }
     // An empty sentence needs no place.
     assert_eq!(words(dictionary.cut("", &mut scratch(1, 0, 0))), (0, vec![]));
@@ -339,7 +346,7 @@ fn number_11_in_the_middle_of_a_token() {
                 Some(mode) => words(dictionary.tokenize(sentence, mode, &mut room)),
             };
             assert_eq!(found, expected, "{places} places");
-            assert!(room.tokens[4 * expected.1.len()..].iter().all(|&n| n == 909));
+            assert!(room.tokens[6 * expected.1.len()..].iter().all(|&n| n == 909));
         }
     }
     // With all places full the next block is still walked, so its 10 comes before 11, and the places stay full.

@@ -1,10 +1,11 @@
--- Document 01's two frames, by computation. Assumes nothing.
+-- The two frames, by computation. Assumes nothing.
 use mathlib.Core.Path.{refl}
 use lib.Count.{leadingZeros}
 use lib.Ieee.{span, climb, size, odd, units, round, neg, sum, add, sub, lt, eq, ofInt, whole}
 use Rattle.utf8.specs.Text.{charsOf, charsWithin}
 use Rattle.utf8.specs.Characters.{readFrom}
 use Rattle.utf8.specs.Encoding.{byteLength, encode}
+use Rattle.utf8.specs.Utf16.{unitLength}
 use Rattle.lines.specs.Lines.{linesOf, meaningOf, fieldsOf, pieces, frequencyOf, number}
 use Rattle.classes.specs.WhiteSpace.{whiteSpace}
 use Rattle.classes.specs.Ranges.{inRanges}
@@ -29,7 +30,7 @@ use Rattle.answers.specs.Answers.{answerOf, answerBy, cutLine}
 use Rattle.answers.specs.Example.{ExampleFrames}
 
 pub example-frames : ExampleFrames
-unfolding charsOf charsWithin readFrom byteLength encode linesOf meaningOf fieldsOf pieces frequencyOf number whiteSpace inRanges cutClass han hanMain
+unfolding charsOf charsWithin readFrom byteLength encode unitLength linesOf meaningOf fieldsOf pieces frequencyOf number whiteSpace inRanges cutClass han hanMain
     hanExtension asciiLetterOrDigit cutSign getOf walk wordAt wordNumber testedStep openStep bitsAt fromRoot nodeAt probeOf probeFrom nextSlot
     startSlot log2 keyOf filterHash keyBit childBit reach newSlots withBits withWord emptyFrom emptySlot extend insert slotCount hasBit withBit
     allowed headDamaged emptyBook decide emptySlots inserted loadLines loadOf wordsFrom walkOn logFloat L logOf highestOne significand nextBit

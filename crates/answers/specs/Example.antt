@@ -1,4 +1,5 @@
--- Document 01's example of `cutlines`: "Input `01616220310a`, `0261626321` prints `000001` and `000003000000020000000200020003000200030003000400030004`."
+-- Document 01's example of `cutlines`, with document 02's third pair of offsets: input `01616220310a`, `0261626321` prints `000001` and
+-- `000003000000020000000200000002000200030002000300020003000300040003000400030004`.
 -- The texts are ASCII. Proof: `proofs/Example.antt`, by computation. Assumes nothing.
 use Prim.Native.Nat.{ℕ}
 use mathlib.Core.List.{List, [], _∷_}
@@ -19,9 +20,10 @@ secondFrame =
 
 abbrev pub secondAnswer : List ℕ
 secondAnswer =
-    48 ∷ 48 ∷ 48 ∷ 48 ∷ 48 ∷ 51 ∷ 48 ∷ 48 ∷ 48 ∷ 48 ∷ 48 ∷ 48 ∷ 48 ∷ 50 ∷ 48 ∷ 48 ∷ 48 ∷ 48 ∷ 48 ∷ 48 ∷ 48 ∷ 50 ∷ 48 ∷ 48 ∷
-    48 ∷ 50 ∷ 48 ∷ 48 ∷ 48 ∷ 51 ∷ 48 ∷ 48 ∷ 48 ∷ 50 ∷ 48 ∷ 48 ∷ 48 ∷ 51 ∷ 48 ∷ 48 ∷ 48 ∷ 51 ∷ 48 ∷ 48 ∷ 48 ∷ 52 ∷ 48 ∷ 48 ∷
-    48 ∷ 51 ∷ 48 ∷ 48 ∷ 48 ∷ 52 ∷ 10 ∷ []
+    48 ∷ 48 ∷ 48 ∷ 48 ∷ 48 ∷ 51 ∷
+    48 ∷ 48 ∷ 48 ∷ 48 ∷ 48 ∷ 48 ∷ 48 ∷ 50 ∷ 48 ∷ 48 ∷ 48 ∷ 48 ∷ 48 ∷ 48 ∷ 48 ∷ 50 ∷ 48 ∷ 48 ∷ 48 ∷ 48 ∷ 48 ∷ 48 ∷ 48 ∷ 50 ∷
+    48 ∷ 48 ∷ 48 ∷ 50 ∷ 48 ∷ 48 ∷ 48 ∷ 51 ∷ 48 ∷ 48 ∷ 48 ∷ 50 ∷ 48 ∷ 48 ∷ 48 ∷ 51 ∷ 48 ∷ 48 ∷ 48 ∷ 50 ∷ 48 ∷ 48 ∷ 48 ∷ 51 ∷
+    48 ∷ 48 ∷ 48 ∷ 51 ∷ 48 ∷ 48 ∷ 48 ∷ 52 ∷ 48 ∷ 48 ∷ 48 ∷ 51 ∷ 48 ∷ 48 ∷ 48 ∷ 52 ∷ 48 ∷ 48 ∷ 48 ∷ 51 ∷ 48 ∷ 48 ∷ 48 ∷ 52 ∷ 10 ∷ []
 
 -- the second frame gets the book that the first one left
 abbrev pub ExampleFrames : Type 0

@@ -81,7 +81,7 @@ pub fn put_tokenize(
     ensures { λ r. ⌜ r ≤ at + longestAnswer ⌝ }
 {
     let mut chars = [0u32; WORK];
-    let mut offsets = [0u32; WORK];
+    let mut offsets = [0u64; WORK];
     let mut starts = [0usize; WORK];
     let mut scores = [0.0f64; WORK];
     let mut ends = [0u32; WORK];
@@ -133,7 +133,7 @@ pub fn put_cut_all(
     ensures { λ r. ⌜ r ≤ at + longestAnswer ⌝ }
 {
     let mut chars = [0u32; WORK];
-    let mut offsets = [0u32; WORK];
+    let mut offsets = [0u64; WORK];
     let mut tokens = [0u32; TOKENS];
     let cut = cut_all::cut_all(
         head,

@@ -23,8 +23,8 @@ use Rattle.cuts.specs.Edges.{Edges, edges, stopped, vocabularyOf, walksOf, edge
 use Rattle.cuts.specs.Slices.{blockOf}
 use Rattle.cuts.specs.declared.TokenizeMode.{TokenizeMode}
 use Rattle.cuts.specs.declared.TokenizeMode.the-variants.{Default, Search}
-use Rattle.cuts.specs.Tokens.{Span, Written, anyOf, singly, searched, cutRoute}
-use Rattle.cuts.specs.Cuts.{CutAnswer, answer, Base, putSpans, cutEdges, searchEdges, cutBlock, searchBlock}
+use Rattle.cuts.specs.Tokens.{Span, Base, Written, anyOf, singly, searched, cutRoute}
+use Rattle.cuts.specs.Cuts.{CutAnswer, answer, putSpans, cutEdges, searchEdges, cutBlock, searchBlock}
 use Rattle.prefixes.specs.declared.Prefixes.{Prefixes}
 use Rattle.prefixes.specs.declared.Prefixes.the-variants as Prefixes
 use Rattle.prefixes.specs.Edges.{WalkedBlock}

@@ -14,8 +14,8 @@ use Rattle.cuts.specs.declared.TokenizeMode.the-variants.{Default, Search}
 use Rattle.cuts.specs.Slices.{SeenAs}
 use Rattle.cuts.specs.Blocks.{Block}
 use Rattle.cuts.specs.Edges.{Vocabulary}
-use Rattle.cuts.specs.Tokens.{Written}
-use Rattle.cuts.specs.Cuts.{CutAnswer, Base, cutBlock, searchBlock}
+use Rattle.cuts.specs.Tokens.{Base, Written}
+use Rattle.cuts.specs.Cuts.{CutAnswer, cutBlock, searchBlock}
 use Rattle.block.specs.declared.Plan.{Plan}
 
 -- what a cut is lent of a book: the trie and the records' logarithms, and with the plan how many of these are used and L of the total

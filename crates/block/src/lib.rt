@@ -12,8 +12,8 @@ ghost use Rattle.classes.specs.Blocks.{cutClass};
 ghost use Rattle.book.specs.Returns.{Book, longestText, mostRecords};
 ghost use Rattle.cuts.specs.Slices.{blockOf, Characters, Placed};
 ghost use Rattle.cuts.specs.Edges.{vocabularyOf};
-ghost use Rattle.cuts.specs.Tokens.{written};
-ghost use Rattle.cuts.specs.Cuts.{cutAnswer, Base};
+ghost use Rattle.cuts.specs.Tokens.{Base, written};
+ghost use Rattle.cuts.specs.Cuts.{cutAnswer};
 ghost use Rattle.block.specs.Plans.{WorkFits, Planned, blockBy, OneKind};
 use book::Outcome;
 use cuts::Cut;
@@ -41,7 +41,7 @@ pub fn cut_block(
     plan: Plan,
     run: Run,
     chars: &[u32],
-    offsets: &[u32],
+    offsets: &[u64],
     base: u32,
     starts: &mut [usize],
     scores: &mut [f64],

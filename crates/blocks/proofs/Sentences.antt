@@ -4,12 +4,13 @@
 use mathlib.Core.Path.{_≡_, refl}
 use mathlib.Core.List.{List}
 use mathlib.Core.Option.{IsSome}
-use Prim.Native.Nat.{ℕ}
+use Prim.Native.Nat.{ℕ, _≤_}
 use lib.Ieee.{Float}
 use lib.ListN.{length}
 use Rattle.trie.specs.Trie.{CharTrie}
 use Rattle.utf8.specs.Text.{charsOf}
 use Rattle.classes.specs.Blocks.{cutClass}
+use Rattle.book.specs.Returns.{longestText}
 use Rattle.cuts.specs.Edges.{vocabularyOf}
 use Rattle.runs.specs.declared.CharacterClass.the-variants.{Default}
 use Rattle.runs.specs.declared.Run.{Run}
@@ -37,18 +38,19 @@ pub record SameLong
 -- ---- the loop
 
 -- where it stands, in each book that is lent so
-abbrev pub Cutting : CharTrie → List Float → Plan → ℕ → List ℕ → List ℕ → List ℕ → ℕ → ℕ → ℕ → Type 0
+abbrev pub Cutting : CharTrie → List Float → Plan → ℕ → List ℕ → List ℕ → List ℕ → ℕ → ℕ → ℕ → ℕ → Type 0
 Cutting trie logarithms plan room = Loop.Cutting Default cutClass (λ b. Planned b trie logarithms plan) (λ b. blockBy (plan .mode) (vocabularyOf b) room)
 
 -- before the first block, where the splitter starts
-pub begins : (trie : CharTrie) (logarithms : List Float) (plan : Plan) (room : ℕ) (sentence tokens : List ℕ) (at : ℕ) → IsSome (charsOf sentence) → at ≡ 0
-    → Cutting trie logarithms plan room sentence tokens tokens at 0 0
+pub begins : (trie : CharTrie) (logarithms : List Float) (plan : Plan) (room : ℕ) (sentence tokens : List ℕ) (at : ℕ)
+    → length sentence ≤ longestText → IsSome (charsOf sentence) → at ≡ 0
+    → Cutting trie logarithms plan room sentence tokens tokens at 0 0 0
 unfolding classOf
-begins trie logarithms plan room sentence tokens at some-chars starts = Loop.begins sentence tokens at refl some-chars starts
+begins trie logarithms plan room sentence tokens at short some-chars starts = Loop.begins sentence tokens at refl short some-chars starts
 
 -- the characters of a run are all of the class, or all not
-pub of-kind : {sentence : List ℕ} {at : ℕ} {r : Run} {chars offsets : List ℕ}
-    → Recorded (classOf Default) sentence at r chars offsets
+pub of-kind : {sentence : List ℕ} {at from : ℕ} {r : Run} {chars offsets : List ℕ}
+    → Recorded (classOf Default) sentence at from r chars offsets
     → OneKind cutClass (r .matched) (r .chars) chars
 unfolding classOf
-of-kind run = one-kind cutClass _ _ _ _ _ run
+of-kind run = one-kind cutClass _ _ _ _ _ _ run

@@ -31,7 +31,7 @@ pub fn cut_blocks(
     plan: Plan,
     sentence: &[u8],
     chars: &mut [u32],
-    offsets: &mut [u32],
+    offsets: &mut [u64],
     starts: &mut [usize],
     scores: &mut [f64],
     ends: &mut [u32],
@@ -52,10 +52,18 @@ pub fn cut_blocks(
         (written 0 (was tokens))) ⌝ }
 {
     let mut at = splitter::start(sentence);
+    let mut units: usize = 0;
     let mut base: u32 = 0;
     let mut count: usize = 0;
     while splitter::has_next(sentence, at) {
-        let run = runs::next_recording(sentence, at, CharacterClass::Default, chars, offsets);
+        let run = runs::next_recording(
+            sentence,
+            at,
+            units,
+            CharacterClass::Default,
+            chars,
+            offsets,
+        );
         let cut = block::cut_block(
             root_children,
             root_words,
@@ -84,6 +92,7 @@ pub fn cut_blocks(
             return Cut { outcome, count };
         }
         base += run.chars as u32;
+        units = run.units;
         at = splitter::advance(sentence, at, run.end);
     }
     Cut {

@@ -33,8 +33,8 @@ use Rattle.best_route.specs.Ties.{FixedChoice, Finite}
 use Rattle.cuts.specs.Blocks as Blocks
 use Rattle.cuts.specs.Blocks.{blocksOf}
 use Rattle.cuts.specs.Edges.{vocabularyOf, walksOf, edges, stopped, edgesWithin}
-use Rattle.cuts.specs.Tokens.{Span, span, stepsFrom, cutRoute, anyOf, heldBetween, searched, Written}
-use Rattle.cuts.specs.Cuts.{answer, Base, putSpans, cutBlock, searchBlock}
+use Rattle.cuts.specs.Tokens.{Span, span, stepsFrom, cutRoute, anyOf, heldBetween, searched, Base, Written}
+use Rattle.cuts.specs.Cuts.{answer, putSpans, cutBlock, searchBlock}
 use Rattle.cuts.specs.Slices.{blockOf}
 
 -- ---- the words of a block

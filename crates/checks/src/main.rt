@@ -2,7 +2,8 @@
 //! each heading.
 //!
 //! The gate compares the lines with `stdout`, which does not come from this program: models/checks.py computes it from
-//! Python's UTF-8 codec, document 01's ranges and document 01's definition of L. Proved here is only that the program is safe and ends.
+//! Python's codecs of UTF-8 and UTF-16, document 01's ranges and document 01's definition of L. Proved here is only that the program
+//! is safe and ends.
 mod class_ranges;
 mod dictionary_lines;
 mod encodings;

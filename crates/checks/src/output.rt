@@ -83,11 +83,13 @@ pub fn print_bytes(s: &[u8]) {
 
 pub fn print_character(c: Character) {
     match c {
-        Character::Char(value, width) => {
+        Character::Char(value, width, units) => {
             print(b"char U+");
             print_hex(value, 4);
             print(b", ");
             print_number_of(width, b"byte");
+            print(b", ");
+            print_number_of(units, b"unit");
         }
         Character::Malformed => {
             print(b"malformed");

@@ -41,7 +41,7 @@ fn byte(x: u32) -> u8 {
 fn width(b0: u32, b1: u32, b2: u32, b3: u32) -> usize {
     let s = [byte(b0), byte(b1), byte(b2), byte(b3)];
     match utf8::read_char(&s, 0) {
-        Character::Char(_, w) => w,
+        Character::Char(_, w, _) => w,
         Character::Malformed => 0,
         Character::End => ENDED,
     }

@@ -1,7 +1,7 @@
 //! `cut_all` (lib.rs): every word of the dictionary that a sentence's blocks hold.
 //!
-//! The work area is two slices, which a block fills from their start: its characters, and their byte
-//! offsets. The token area is one flat slice.
+//! The work area is two slices, which a block fills from their start: its characters, and their offsets in the sentence. The token
+//! area is one flat slice.
 ghost use mathlib.Core.Path.{_≡_};
 ghost use mathlib.Core.Bool.{false};
 ghost use Rattle.trie.specs.Lent.{was, became};
@@ -24,7 +24,7 @@ pub fn cut_all(
     logarithms: &[f64],
     sentence: &[u8],
     chars: &mut [u32],
-    offsets: &mut [u32],
+    offsets: &mut [u64],
     tokens: &mut [u32],
 ) -> Cut
     ensures { λ r. ⌜ cutAnswer r (became tokens) ≡ cutAllOf (bookLent head «root_children» «root_words» keys children words frequencies logarithms)

@@ -1,7 +1,7 @@
 -- The blocks of a sentence, one after the other: the loop of `cut_all_blocks`. It is `splitter`'s, with `cutAllBlock` for a block and the class of `cut_all`.
 -- A block is cut by one of two calls, as it is of the class or not; each comes to `cutAllBlock`. The slices stay as long as they were.
 -- Assumes nothing.
-use Prim.Native.Nat.{ℕ}
+use Prim.Native.Nat.{ℕ, _≤_}
 use mathlib.Core.Bool.{Bool, true, false}
 use mathlib.Core.List.{List}
 use mathlib.Core.Option.{IsSome}
@@ -11,13 +11,13 @@ use lib.ListN.{length}
 use Rattle.trie.specs.Trie.{trieOf}
 use Rattle.utf8.specs.Text.{charsOf}
 use Rattle.classes.specs.Blocks.{cutAllClass}
-use Rattle.book.specs.Returns.{Book}
+use Rattle.book.specs.Returns.{Book, longestText}
 use Rattle.book.specs.Prefixes.{wordsFrom}
 use Rattle.cuts.specs.declared.Cut.{Cut}
 use Rattle.cuts.specs.Slices.{SeenAs, blockOf, Placed}
 use Rattle.cuts.specs.Edges.{vocabularyOf, walksOf}
-use Rattle.cuts.specs.Tokens.{runsOf, written}
-use Rattle.cuts.specs.Cuts.{cutAnswer, Base, putSpans, putWalks, cutAllBlock}
+use Rattle.cuts.specs.Tokens.{runsOf, Base, written}
+use Rattle.cuts.specs.Cuts.{cutAnswer, putSpans, putWalks, cutAllBlock}
 use Rattle.runs.specs.declared.CharacterClass.the-variants.{CutAll}
 use Rattle.runs.specs.Runs.{classOf}
 use Rattle.splitter.proofs.Cutting as Loop
@@ -32,17 +32,18 @@ pub record SameLong (chars chars₀ offsets offsets₀ tokens tokens₀ : List �
 -- ---- the loop
 
 -- where it stands, in each book that has these tables
-abbrev pub Cutting : List ℕ → List ℤ → List ℕ → List ℕ → List ℤ → ℕ → List ℕ → List ℕ → List ℕ → ℕ → ℕ → ℕ → Type 0
+abbrev pub Cutting : List ℕ → List ℤ → List ℕ → List ℕ → List ℤ → ℕ → List ℕ → List ℕ → List ℕ → ℕ → ℕ → ℕ → ℕ → Type 0
 Cutting rootChildren rootWords keys children words used =
     Loop.Cutting CutAll cutAllClass (λ b. SeenAs b (trieOf rootChildren rootWords keys children words) used) (λ b. cutAllBlock (vocabularyOf b))
 
 -- before the first block, where the splitter starts
 pub begins : (rootChildren : List ℕ) (rootWords : List ℤ) (keys children : List ℕ) (words : List ℤ) (used : ℕ) (s tokens : List ℕ) (at : ℕ)
+    → length s ≤ longestText
     → IsSome (charsOf s)
     → at ≡ 0
-    → Cutting rootChildren rootWords keys children words used s tokens tokens at 0 0
+    → Cutting rootChildren rootWords keys children words used s tokens tokens at 0 0 0
 unfolding classOf
-begins rootChildren rootWords keys children words used s tokens at some-chars starts = Loop.begins s tokens at refl some-chars starts
+begins rootChildren rootWords keys children words used s tokens at short some-chars starts = Loop.begins s tokens at refl short some-chars starts
 
 -- ---- a block is cut, after so many tokens
 

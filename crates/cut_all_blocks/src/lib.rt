@@ -30,7 +30,7 @@ pub fn cut_all_blocks(
     used: usize,
     sentence: &[u8],
     chars: &mut [u32],
-    offsets: &mut [u32],
+    offsets: &mut [u64],
     tokens: &mut [u32],
 ) -> Cut
     requires { ⌜ EquallyLong (now «root_children») (now «root_words») (now keys) (now children) (now words) ⌝ }
@@ -42,10 +42,11 @@ pub fn cut_all_blocks(
         (written 0 (was tokens))) ⌝ }
 {
     let mut at = splitter::start(sentence);
+    let mut units: usize = 0;
     let mut base: u32 = 0;
     let mut count: usize = 0;
     while splitter::has_next(sentence, at) {
-        let run = runs::next_recording(sentence, at, CharacterClass::CutAll, chars, offsets);
+        let run = runs::next_recording(sentence, at, units, CharacterClass::CutAll, chars, offsets);
         let n = run.chars;
         let cut = if run.matched {
             cut_all_tokens::cut_all_tokens(
@@ -72,6 +73,7 @@ pub fn cut_all_blocks(
             return Cut { outcome, count };
         }
         base += n as u32;
+        units = run.units;
         at = splitter::advance(sentence, at, run.end);
     }
     Cut {

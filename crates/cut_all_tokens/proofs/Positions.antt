@@ -17,8 +17,8 @@ use Rattle.book.specs.Prefixes.{Walked, wordsFrom}
 use Rattle.cuts.specs.declared.Cut.{Cut}
 use Rattle.cuts.specs.Slices.{SeenAs, Placed}
 use Rattle.cuts.specs.Edges.{walksOf}
-use Rattle.cuts.specs.Tokens.{Written, written}
-use Rattle.cuts.specs.Cuts.{CutAnswer, answer, cutAnswer, andThen, Base, putSpans, spansOf, putWalks}
+use Rattle.cuts.specs.Tokens.{Base, Written, written}
+use Rattle.cuts.specs.Cuts.{CutAnswer, answer, cutAnswer, andThen, putSpans, spansOf, putWalks}
 use Rattle.cuts.proofs.Sequence.{goes-on, stops, then-alike, then-after}
 use Rattle.cuts.proofs.Walks.{no-more-walks, first-walk}
 use Rattle.words_at.specs.Walks.{putWalk}

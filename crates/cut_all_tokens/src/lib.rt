@@ -9,8 +9,8 @@ ghost use Rattle.book.specs.Returns.{Book, longestText};
 ghost use Rattle.book.specs.Prefixes.{wordsFrom};
 ghost use Rattle.cuts.specs.Slices.{SeenAs, Characters, Placed};
 ghost use Rattle.cuts.specs.Edges.{walksOf};
-ghost use Rattle.cuts.specs.Tokens.{written};
-ghost use Rattle.cuts.specs.Cuts.{cutAnswer, Base, putWalks};
+ghost use Rattle.cuts.specs.Tokens.{Base, written};
+ghost use Rattle.cuts.specs.Cuts.{cutAnswer, putWalks};
 use book::Outcome;
 use cuts::Cut;
 
@@ -24,7 +24,7 @@ pub fn cut_all_tokens(
     shift: u32,
     used: usize,
     chars: &[u32],
-    offsets: &[u32],
+    offsets: &[u64],
     n: usize,
     base: u32,
     tokens: &mut [u32],

@@ -24,7 +24,7 @@ fn print_tokenized(
     book_records: usize,
     slots: usize,
     chars: &[u32],
-    offsets: &[u32],
+    offsets: &[u64],
     starts: &[usize],
     scores: &[f64],
     ends: &[u32],
@@ -69,7 +69,7 @@ fn tokenize_in(
     field: u64,
     mode: TokenizeMode,
     chars: &mut [u32],
-    offsets: &mut [u32],
+    offsets: &mut [u64],
     starts: &mut [usize],
     scores: &mut [f64],
     ends: &mut [u32],
@@ -141,16 +141,16 @@ fn tokenize(
     let records = script::length(command, 1 + 5 * apart, 64);
     let edge_ends = script::length(command, 2 + 5 * apart, 64);
     let edge_records = script::length(command, 2 + 6 * apart, 64);
-    let tokens = script::length(command, 3 + 6 * apart, 256);
+    let tokens = script::length(command, 3 + 6 * apart, 384);
     let mut char_area = [7u32; 64];
-    let mut offset_area = [7u32; 64];
+    let mut offset_area = [7u64; 64];
     let mut start_area = [7usize; 64];
     let mut score_area = [7.0f64; 64];
     let mut end_area = [7u32; 64];
     let mut record_area = [7u32; 64];
     let mut edge_end_area = [7u32; 64];
     let mut edge_record_area = [7u32; 64];
-    let mut token_area = [7u32; 256];
+    let mut token_area = [7u32; 384];
     tokenize_in(
         head,
         root_children,
@@ -187,7 +187,7 @@ fn cut_all_in(
     logarithms: &[f64],
     command: &[u8],
     chars: &mut [u32],
-    offsets: &mut [u32],
+    offsets: &mut [u64],
     tokens: &mut [u32],
 ) {
     let answer = cut_all::cut_all(
@@ -204,7 +204,7 @@ fn cut_all_in(
         offsets,
         tokens,
     );
-    let unchanged = kept::is_sevens(chars) & kept::is_sevens(offsets);
+    let unchanged = kept::is_sevens(chars) & kept::is_sevens_u64(offsets);
     line::print_answer(
         command,
         answer,
@@ -231,10 +231,10 @@ fn cut_all(
 ) {
     let chars = script::length(command, 1, 64);
     let offsets = script::length(command, 2, 64);
-    let tokens = script::length(command, 3, 256);
+    let tokens = script::length(command, 3, 384);
     let mut char_area = [7u32; 64];
-    let mut offset_area = [7u32; 64];
-    let mut token_area = [7u32; 256];
+    let mut offset_area = [7u64; 64];
+    let mut token_area = [7u32; 384];
     cut_all_in(
         head,
         root_children,

@@ -12,6 +12,18 @@ pub fn is_sevens(s: &[u32]) -> bool {
     true
 }
 
+// Of 64-bit numbers.
+pub fn is_sevens_u64(s: &[u64]) -> bool {
+    let mut i = 0;
+    while i < s.len() {
+        if s[i] != 7 {
+            return false;
+        }
+        i += 1;
+    }
+    true
+}
+
 fn is_sevens_usize(s: &[usize]) -> bool {
     let mut i = 0;
     while i < s.len() {
@@ -37,7 +49,7 @@ fn is_sevens_f64(s: &[f64]) -> bool {
 // Of a work area and an edge area.
 pub fn are_sevens(
     chars: &[u32],
-    offsets: &[u32],
+    offsets: &[u64],
     starts: &[usize],
     scores: &[f64],
     ends: &[u32],
@@ -46,7 +58,7 @@ pub fn are_sevens(
     edge_records: &[u32],
 ) -> bool {
     is_sevens(chars)
-        & is_sevens(offsets)
+        & is_sevens_u64(offsets)
         & is_sevens_usize(starts)
         & is_sevens_f64(scores)
         & is_sevens(ends)

@@ -23,7 +23,7 @@ pub fn cut_for_search(
     logarithms: &[f64],
     sentence: &[u8],
     chars: &mut [u32],
-    offsets: &mut [u32],
+    offsets: &mut [u64],
     starts: &mut [usize],
     scores: &mut [f64],
     ends: &mut [u32],

@@ -11,8 +11,8 @@ ghost use Rattle.book.specs.Returns.{longestText};
 ghost use Rattle.route.specs.Route.{Best};
 ghost use Rattle.route.specs.Slices.{rowsOf};
 ghost use Rattle.cuts.specs.Slices.{Placed};
-ghost use Rattle.cuts.specs.Tokens.{span, cutRoute, written};
-ghost use Rattle.cuts.specs.Cuts.{cutAnswer, Base, putSpans};
+ghost use Rattle.cuts.specs.Tokens.{span, cutRoute, Base, written};
+ghost use Rattle.cuts.specs.Cuts.{cutAnswer, putSpans};
 ghost use Rattle.search_words.specs.Rising.{EndsRise};
 ghost use Rattle.cut_route.specs.Routes.{Forward, HasEnds, letterRun, tokenBy, tokensBy};
 use book::Outcome;
@@ -41,7 +41,7 @@ fn letters_end(chars: &[u32], ends: &[u32], n: usize, from: usize) -> usize
 fn emit_token(
     mode: TokenizeMode,
     chars: &[u32],
-    offsets: &[u32],
+    offsets: &[u64],
     starts: &[usize],
     edge_ends: &[u32],
     base: u32,
@@ -76,7 +76,7 @@ fn emit_token(
 pub fn cut_route(
     mode: TokenizeMode,
     chars: &[u32],
-    offsets: &[u32],
+    offsets: &[u64],
     starts: &[usize],
     edge_ends: &[u32],
     ends: &[u32],

@@ -28,7 +28,7 @@ pub fn cut_sentence(
     mode: TokenizeMode,
     work: usize,
     chars: &mut [u32],
-    offsets: &mut [u32],
+    offsets: &mut [u64],
     starts: &mut [usize],
     scores: &mut [f64],
     ends: &mut [u32],

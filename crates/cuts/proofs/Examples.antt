@@ -6,6 +6,7 @@ use lib.Ieee.{span, climb, size, odd, units, round, neg, sum, add, sub, lt, eq, 
 use Rattle.utf8.specs.Text.{charsOf, charsWithin}
 use Rattle.utf8.specs.Characters.{readFrom}
 use Rattle.utf8.specs.Encoding.{byteLength, encode}
+use Rattle.utf8.specs.Utf16.{unitLength}
 use Rattle.lines.specs.Lines.{linesOf, meaningOf, fieldsOf, pieces, frequencyOf, number}
 use Rattle.classes.specs.WhiteSpace.{whiteSpace}
 use Rattle.classes.specs.Ranges.{inRanges}
@@ -26,11 +27,11 @@ use Rattle.cuts.specs.Blocks.{blocksOf}
 use Rattle.cuts.specs.Edges.{walksOf, edgesWithin}
 use Rattle.cuts.specs.Tokens.{stepsFrom, piecesOf, joined, cutRoute, singly, runsOf, parts, partsOf, wordsOfSize, searched, tokenOf}
 use Rattle.cuts.specs.Cuts.{putSpans, putWalks, cutBlock, searchBlock, cutAllBlock, cutBlocks, cutWith, cutOf, cutAllOf, cutForSearchOf}
-use Rattle.cuts.specs.Examples.{StarredExamples, SearchExamples}
+use Rattle.cuts.specs.Examples.{StarredExamples, SearchExamples, Utf16Examples}
 
--- both by computation, under one list of the definitions that are computed
-examples : StarredExamples × SearchExamples
-unfolding charsOf charsWithin readFrom byteLength encode linesOf meaningOf fieldsOf pieces frequencyOf number whiteSpace inRanges cutClass han hanMain
+-- all by computation, under one list of the definitions that are computed
+examples : StarredExamples × SearchExamples × Utf16Examples
+unfolding charsOf charsWithin readFrom byteLength encode unitLength linesOf meaningOf fieldsOf pieces frequencyOf number whiteSpace inRanges cutClass han hanMain
     hanExtension asciiLetterOrDigit cutSign joins connector asciiLetter getOf walk wordAt wordNumber testedStep openStep bitsAt fromRoot nodeAt
     probeOf probeFrom nextSlot startSlot log2 keyOf filterHash keyBit childBit reach newSlots withBits withWord emptyFrom emptySlot extend insert
     slotCount hasBit withBit allowed headDamaged emptyBook lookupOf decide emptySlots replaced inserted loadLines loadOf wordsFrom walkOn logFloat L
@@ -40,6 +41,7 @@ unfolding charsOf charsWithin readFrom byteLength encode linesOf meaningOf field
 examples = (
   (starred-logarithms, refl, refl, refl, refl, refl, refl, refl, refl, refl, refl, refl, refl, refl, refl, refl, refl, refl),
   (refl, refl, refl, refl, refl, refl),
+  (refl, refl, refl, refl),
 )
 
 pub starred-examples : StarredExamples
@@ -47,3 +49,6 @@ starred-examples = examples .0
 
 pub search-examples : SearchExamples
 search-examples = examples .1
+
+pub utf16-examples : Utf16Examples
+utf16-examples = examples .2

@@ -2,4 +2,5 @@
 pub mod Examples
 pub mod Sequence
 pub mod Lists
+pub mod Offsets
 pub mod Walks

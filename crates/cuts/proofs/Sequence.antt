@@ -7,8 +7,8 @@ use Prim.Native.Nat.{ℕ}
 use Rattle.book.specs.declared.Outcome.the-variants.{Done, TokensFull}
 use Rattle.book.specs.Returns.{isDone}
 use Rattle.cuts.specs.declared.Cut.{Cut}
-use Rattle.cuts.specs.Tokens.{Span, Written, hasPlace, put, tokenOf, written}
-use Rattle.cuts.specs.Cuts.{CutAnswer, answer, cutAnswer, andThen, Base, putSpans}
+use Rattle.cuts.specs.Tokens.{Span, Base, Written, hasPlace, put, tokenOf, written}
+use Rattle.cuts.specs.Cuts.{CutAnswer, answer, cutAnswer, andThen, putSpans}
 
 -- ---- the two cases of `andThen`
 
@@ -39,7 +39,7 @@ module _ (base : Base) (chars : List ℕ) where
 
   -- where there is a place, a token is written
   pub put-one : (w : Written) (s : Span) → hasPlace w ≡ true
-      → putSpans base chars w (s ∷ []) ≡ answer Done (put w (tokenOf (base .chars) (base .bytes) chars s))
+      → putSpans base chars w (s ∷ []) ≡ answer Done (put w (tokenOf base chars s))
   unfolding putSpans
   put-one w s e = rw (putSpans, e)
 
@@ -55,8 +55,8 @@ module _ (base : Base) (chars : List ℕ) where
   put-then w s ss = by (hasPlace w)
     where
       by : (t : Bool)
-          → elim t [ true ↦ putSpans base chars (put w (tokenOf (base .chars) (base .bytes) chars s)) ss | false ↦ answer TokensFull w ]
-          ≡ andThen (elim t [ true ↦ answer Done (put w (tokenOf (base .chars) (base .bytes) chars s)) | false ↦ answer TokensFull w ])
+          → elim t [ true ↦ putSpans base chars (put w (tokenOf base chars s)) ss | false ↦ answer TokensFull w ]
+          ≡ andThen (elim t [ true ↦ answer Done (put w (tokenOf base chars s)) | false ↦ answer TokensFull w ])
           (λ v. putSpans base chars v ss)
       by true = refl
       by false = refl
@@ -66,10 +66,10 @@ module _ (base : Base) (chars : List ℕ) where
       → putSpans base chars w (firsts ++ ss) ≡ andThen (putSpans base chars w firsts) (λ v. putSpans base chars v ss)
   unfolding putSpans
   put-both w [] ss = refl
-  put-both w (s ∷ firsts) ss = by (hasPlace w) (put-both (put w (tokenOf (base .chars) (base .bytes) chars s)) firsts ss)
+  put-both w (s ∷ firsts) ss = by (hasPlace w) (put-both (put w (tokenOf base chars s)) firsts ss)
     where
       next : Written
-      next = put w (tokenOf (base .chars) (base .bytes) chars s)
+      next = put w (tokenOf base chars s)
 
       by : (t : Bool) → putSpans base chars next (firsts ++ ss) ≡ andThen (putSpans base chars next firsts) (λ v. putSpans base chars v ss)
           → elim t [ true ↦ putSpans base chars next (firsts ++ ss) | false ↦ answer TokensFull w ]

@@ -9,6 +9,7 @@ use lib.Ieee.{Float}
 use lib.ListN.{length}
 use Rattle.classes.specs.Blocks.{cutClass, cutAllClass}
 use Rattle.utf8.specs.Encoding.{byteLength}
+use Rattle.utf8.specs.Utf16.{unitLength}
 use Rattle.utf8.specs.Text.{charsOf}
 use Rattle.score.specs.Logarithm.{logFloat}
 use Rattle.book.specs.declared.Outcome.{Outcome}
@@ -21,7 +22,7 @@ use Rattle.cuts.specs.Blocks.{Block, blocksOf}
 use Rattle.cuts.specs.declared.TokenizeMode.{TokenizeMode}
 use Rattle.cuts.specs.declared.TokenizeMode.the-variants.{Default, Search}
 use Rattle.cuts.specs.Edges.{Vocabulary, vocabularyOf, walksOf, Edges, edges, stopped, edgesWithin}
-use Rattle.cuts.specs.Tokens.{Span, span, cutRoute, singly, runsOf, searched, tokenOf, tokenWidth, Written, written, hasPlace, put}
+use Rattle.cuts.specs.Tokens.{Span, span, cutRoute, singly, runsOf, searched, Base, tokenOf, tokenWidth, Written, written, hasPlace, put}
 
 -- what a cut returns, and the token area afterwards
 pub record CutAnswer : Type 0 where
@@ -41,16 +42,11 @@ andThen a next = elim (isDone (a .outcome)) [ true ↦ next (a .written) | false
 
 -- ---- tokens into the area
 
--- where a block starts in the sentence
-pub record Base : Type 0 where
-  pub chars : ℕ
-  pub bytes : ℕ
-
 -- "11: more tokens than places: the first tokens, all places full"
 unfoldable pub putSpans : Base → List ℕ → Written → List Span → CutAnswer
 putSpans base chars w [] = answer Done w
 putSpans base chars w (s ∷ ss) =
-    elim (hasPlace w) [ true ↦ putSpans base chars (put w (tokenOf (base .chars) (base .bytes) chars s)) ss | false ↦ answer TokensFull w ]
+    elim (hasPlace w) [ true ↦ putSpans base chars (put w (tokenOf base chars s)) ss | false ↦ answer TokensFull w ]
 
 -- ---- a block
 
@@ -98,15 +94,20 @@ cutAllBlock v base block w =
 
 -- ---- the sentence
 
+-- where the block after these characters starts
+abbrev pub behind : Base → List ℕ → Base
+behind base cs =
+    record { chars = base .chars + length cs; bytes = base .bytes + byteLength cs; units = base .units + unitLength cs }
+
 -- "block by block"
 unfoldable pub cutBlocks : (Base → Block → Written → CutAnswer) → Base → List Block → Written → CutAnswer
 cutBlocks one base [] w = answer Done w
 cutBlocks one base (block ∷ blocks) w =
     andThen (one base block w)
-    (λ v. cutBlocks one (record { chars = base .chars + length (block .chars); bytes = base .bytes + byteLength (block .chars) }) blocks v)
+    (λ v. cutBlocks one (behind base (block .chars)) blocks v)
 
 abbrev pub start : Base
-start = record { chars = 0; bytes = 0 }
+start = record { chars = 0; bytes = 0; units = 0 }
 
 -- what the tests of the book say: whether its areas have the sizes that are allowed, and whether its head is damaged
 pub record Tested : Type 0 where

@@ -1,10 +1,10 @@
 -- Document 01's starred examples, as one statement. The first row is L's. The next ones say that each dictionary is accepted, with its number of lines.
 -- Each other row starts at the empty book, loads a dictionary, cuts a sentence into an area of as many places as there are tokens, and says each token's
--- start and end in characters and in bytes.
+-- start and end in characters, in bytes and in UTF-16 code units.
 -- Texts are bytes, with what they read above them. Proof: `proofs/Examples.antt`.
 -- Assumes nothing.
 use Prim.Native.Nat.{ℕ, _/_}
-use mathlib.Core.List.{List, [], _∷_}
+use mathlib.Core.List.{List, [], _∷_, _++_}
 use mathlib.Core.Path.{_≡_}
 use lib.ListN.{length, replicate}
 use Rattle.score.specs.Logarithm.{StarredLogarithms}
@@ -28,6 +28,10 @@ Accepted text lines = load text ≡ loadAnswer Done lines (loaded text)
 -- 0, the tokens' count, and the token area: these numbers
 abbrev pub allTokens : List ℕ → CutAnswer
 allTokens numbers = answer Done (record { count = length numbers / tokenWidth; area = numbers })
+
+-- a token's numbers: character start and end, byte start and end, UTF-16 start and end
+abbrev pub token : ℕ → ℕ → ℕ → ℕ → ℕ → ℕ → List ℕ
+token c d b e u v = c ∷ d ∷ b ∷ e ∷ u ∷ v ∷ []
 
 -- with places for 16 characters and 16 edges
 abbrev pub Cut : List ℕ → List ℕ → List ℕ → Type 0
@@ -93,27 +97,30 @@ StarredExamples =
     -- the dictionaries are accepted
     × Accepted bookA 8 × Accepted tie 4 × Accepted noTie 4 × Accepted totalZero 2 × Accepted totalOne 3 × Accepted compounds 2 × Accepted [] 0
     -- A, 打开灯: 打开 灯
-    × Cut bookA (230 ∷ 137 ∷ 147 ∷ 229 ∷ 188 ∷ 128 ∷ 231 ∷ 129 ∷ 175 ∷ []) (0 ∷ 2 ∷ 0 ∷ 6 ∷ 2 ∷ 3 ∷ 6 ∷ 9 ∷ [])
+    × Cut bookA (230 ∷ 137 ∷ 147 ∷ 229 ∷ 188 ∷ 128 ∷ 231 ∷ 129 ∷ 175 ∷ []) (token 0 2 0 6 0 2 ++ token 2 3 6 9 2 3)
     -- A, 打开客厅灯: 打开 客厅灯
-    × Cut bookA (230 ∷ 137 ∷ 147 ∷ 229 ∷ 188 ∷ 128 ∷ 229 ∷ 174 ∷ 162 ∷ 229 ∷ 142 ∷ 133 ∷ 231 ∷ 129 ∷ 175 ∷ []) (0 ∷ 2 ∷ 0 ∷ 6 ∷ 2 ∷ 5 ∷ 6 ∷ 15 ∷ [])
+    × Cut bookA (230 ∷ 137 ∷ 147 ∷ 229 ∷ 188 ∷ 128 ∷ 229 ∷ 174 ∷ 162 ∷ 229 ∷ 142 ∷ 133 ∷ 231 ∷ 129 ∷ 175 ∷ [])
+    (token 0 2 0 6 0 2 ++ token 2 5 6 15 2 5)
     -- A, search, 打开客厅灯: 打开 客厅 厅灯 客厅灯
     × CutForSearch bookA (230 ∷ 137 ∷ 147 ∷ 229 ∷ 188 ∷ 128 ∷ 229 ∷ 174 ∷ 162 ∷ 229 ∷ 142 ∷ 133 ∷ 231 ∷ 129 ∷ 175 ∷ [])
-    (0 ∷ 2 ∷ 0 ∷ 6 ∷ 2 ∷ 4 ∷ 6 ∷ 12 ∷ 3 ∷ 5 ∷ 9 ∷ 15 ∷ 2 ∷ 5 ∷ 6 ∷ 15 ∷ [])
+    (token 0 2 0 6 0 2 ++ token 2 4 6 12 2 4 ++ token 3 5 9 15 3 5 ++ token 2 5 6 15 2 5)
     -- A, all, 打开客厅灯: 打 打开 开 客厅 客厅灯 厅灯 灯
     × CutAll bookA (230 ∷ 137 ∷ 147 ∷ 229 ∷ 188 ∷ 128 ∷ 229 ∷ 174 ∷ 162 ∷ 229 ∷ 142 ∷ 133 ∷ 231 ∷ 129 ∷ 175 ∷ [])
-    (0 ∷ 1 ∷ 0 ∷ 3 ∷ 0 ∷ 2 ∷ 0 ∷ 6 ∷ 1 ∷ 2 ∷ 3 ∷ 6 ∷ 2 ∷ 4 ∷ 6 ∷ 12 ∷ 2 ∷ 5 ∷ 6 ∷ 15 ∷ 3 ∷ 5 ∷ 9 ∷ 15 ∷ 4 ∷ 5 ∷ 12 ∷ 15 ∷ [])
+    (token 0 1 0 3 0 1 ++ token 0 2 0 6 0 2 ++ token 1 2 3 6 1 2 ++ token 2 4 6 12 2 4 ++ token 2 5 6 15 2 5 ++ token 3 5 9 15 3 5 ++
+    token 4 5 12 15 4 5)
     -- 甲乙, the tie: one token
-    × Cut tie (231 ∷ 148 ∷ 178 ∷ 228 ∷ 185 ∷ 153 ∷ []) (0 ∷ 2 ∷ 0 ∷ 6 ∷ [])
+    × Cut tie (231 ∷ 148 ∷ 178 ∷ 228 ∷ 185 ∷ 153 ∷ []) (token 0 2 0 6 0 2)
     -- 甲乙, no tie: two
-    × Cut noTie (231 ∷ 148 ∷ 178 ∷ 228 ∷ 185 ∷ 153 ∷ []) (0 ∷ 1 ∷ 0 ∷ 3 ∷ 1 ∷ 2 ∷ 3 ∷ 6 ∷ [])
+    × Cut noTie (231 ∷ 148 ∷ 178 ∷ 228 ∷ 185 ∷ 153 ∷ []) (token 0 1 0 3 0 1 ++ token 1 2 3 6 1 2)
     -- 甲乙, total 0: 甲 乙
-    × Cut totalZero (231 ∷ 148 ∷ 178 ∷ 228 ∷ 185 ∷ 153 ∷ []) (0 ∷ 1 ∷ 0 ∷ 3 ∷ 1 ∷ 2 ∷ 3 ∷ 6 ∷ [])
+    × Cut totalZero (231 ∷ 148 ∷ 178 ∷ 228 ∷ 185 ∷ 153 ∷ []) (token 0 1 0 3 0 1 ++ token 1 2 3 6 1 2)
     -- 甲乙, total 1: 甲乙
-    × Cut totalOne (231 ∷ 148 ∷ 178 ∷ 228 ∷ 185 ∷ 153 ∷ []) (0 ∷ 2 ∷ 0 ∷ 6 ∷ [])
+    × Cut totalOne (231 ∷ 148 ∷ 178 ∷ 228 ∷ 185 ∷ 153 ∷ []) (token 0 2 0 6 0 2)
     -- WES 1, WES-5.4.5 1, search, WES-5.4.5: WES WES WES-5.4.5
-    × CutForSearch compounds (87 ∷ 69 ∷ 83 ∷ 45 ∷ 53 ∷ 46 ∷ 52 ∷ 46 ∷ 53 ∷ []) (0 ∷ 3 ∷ 0 ∷ 3 ∷ 0 ∷ 3 ∷ 0 ∷ 3 ∷ 0 ∷ 9 ∷ 0 ∷ 9 ∷ [])
+    × CutForSearch compounds (87 ∷ 69 ∷ 83 ∷ 45 ∷ 53 ∷ 46 ∷ 52 ∷ 46 ∷ 53 ∷ []) (token 0 3 0 3 0 3 ++ token 0 3 0 3 0 3 ++ token 0 9 0 9 0 9)
     -- the empty book, ab-1 CR LF !: ab, -, 1, CR LF, !
-    × Cut [] (97 ∷ 98 ∷ 45 ∷ 49 ∷ 13 ∷ 10 ∷ 33 ∷ []) (0 ∷ 2 ∷ 0 ∷ 2 ∷ 2 ∷ 3 ∷ 2 ∷ 3 ∷ 3 ∷ 4 ∷ 3 ∷ 4 ∷ 4 ∷ 6 ∷ 4 ∷ 6 ∷ 6 ∷ 7 ∷ 6 ∷ 7 ∷ [])
+    × Cut [] (97 ∷ 98 ∷ 45 ∷ 49 ∷ 13 ∷ 10 ∷ 33 ∷ [])
+    (token 0 2 0 2 0 2 ++ token 2 3 2 3 2 3 ++ token 3 4 3 4 3 4 ++ token 4 6 4 6 4 6 ++ token 6 7 6 7 6 7)
 
 -- ---- more of search, where the starred examples are silent
 
@@ -142,9 +149,32 @@ SearchExamples =
     Accepted fourCharacters 4 × Accepted parted 1 × Accepted unlettered 3
     -- 甲乙丙丁: 甲乙, then 乙丙丁, then 甲乙丙丁
     × CutForSearch fourCharacters (231 ∷ 148 ∷ 178 ∷ 228 ∷ 185 ∷ 153 ∷ 228 ∷ 184 ∷ 153 ∷ 228 ∷ 184 ∷ 129 ∷ [])
-    (0 ∷ 2 ∷ 0 ∷ 6 ∷ 1 ∷ 4 ∷ 3 ∷ 12 ∷ 0 ∷ 4 ∷ 0 ∷ 12 ∷ [])
+    (token 0 2 0 6 0 2 ++ token 1 4 3 12 1 4 ++ token 0 4 0 12 0 4)
     -- a-bc_7.甲a: bc and 甲a, of which a counts as a letter; a is one byte, 7 has no letter; then itself
-    × CutForSearch parted (97 ∷ 45 ∷ 98 ∷ 99 ∷ 95 ∷ 55 ∷ 46 ∷ 231 ∷ 148 ∷ 178 ∷ 97 ∷ []) (2 ∷ 4 ∷ 2 ∷ 4 ∷ 7 ∷ 9 ∷ 7 ∷ 11 ∷ 0 ∷ 9 ∷ 0 ∷ 11 ∷ [])
+    × CutForSearch parted (97 ∷ 45 ∷ 98 ∷ 99 ∷ 95 ∷ 55 ∷ 46 ∷ 231 ∷ 148 ∷ 178 ∷ 97 ∷ [])
+    (token 2 4 2 4 2 4 ++ token 7 9 7 11 7 9 ++ token 0 9 0 11 0 9)
     -- ab-12_甲乙: ab alone of its parts, since 12 has digits and 甲乙 has Han; then the word of two characters b-, the word of three -12, and itself
     × CutForSearch unlettered (97 ∷ 98 ∷ 45 ∷ 49 ∷ 50 ∷ 95 ∷ 231 ∷ 148 ∷ 178 ∷ 228 ∷ 185 ∷ 153 ∷ [])
-    (0 ∷ 2 ∷ 0 ∷ 2 ∷ 1 ∷ 3 ∷ 1 ∷ 3 ∷ 2 ∷ 5 ∷ 2 ∷ 5 ∷ 0 ∷ 8 ∷ 0 ∷ 12 ∷ [])
+    (token 0 2 0 2 0 2 ++ token 1 3 1 3 1 3 ++ token 2 5 2 5 2 5 ++ token 0 8 0 12 0 8)
+
+-- ---- document 02, note 6: offsets in UTF-16, where a character takes two units
+
+-- 𠮷甲𠮷 9, 甲𠮷 1
+abbrev pub supplementary : List ℕ
+supplementary =
+    240 ∷ 160 ∷ 174 ∷ 183 ∷ 231 ∷ 148 ∷ 178 ∷ 240 ∷ 160 ∷ 174 ∷ 183 ∷ 32 ∷ 57 ∷ 10 ∷
+    231 ∷ 148 ∷ 178 ∷ 240 ∷ 160 ∷ 174 ∷ 183 ∷ 32 ∷ 49 ∷ 10 ∷ []
+
+-- 𠮷甲𠮷!
+abbrev pub family : List ℕ
+family = 240 ∷ 160 ∷ 174 ∷ 183 ∷ 231 ∷ 148 ∷ 178 ∷ 240 ∷ 160 ∷ 174 ∷ 183 ∷ 33 ∷ []
+
+abbrev pub Utf16Examples : Type 0
+Utf16Examples =
+    Accepted supplementary 2
+    -- 𠮷甲𠮷 and, in the next block, !
+    × Cut supplementary family (token 0 3 0 11 0 5 ++ token 3 4 11 12 5 6)
+    -- search: 甲𠮷, 𠮷甲𠮷, !
+    × CutForSearch supplementary family (token 1 3 4 11 2 5 ++ token 0 3 0 11 0 5 ++ token 3 4 11 12 5 6)
+    -- all: 𠮷甲𠮷, 甲𠮷, !
+    × CutAll supplementary family (token 0 3 0 11 0 5 ++ token 1 3 4 11 2 5 ++ token 3 4 11 12 5 6)

@@ -12,6 +12,7 @@ use Rattle.classes.specs.Blocks.{asciiLetterOrDigit}
 use Rattle.classes.specs.Tokens.{joins, connector, asciiLetter}
 use Rattle.book.specs.Prefixes.{Edge}
 use Rattle.utf8.specs.Encoding.{byteLength}
+use Rattle.utf8.specs.Utf16.{unitLength}
 use Rattle.route.specs.Route.{Best}
 use Rattle.cuts.specs.declared.Token.{Token}
 
@@ -126,20 +127,27 @@ searched chars rows (s ∷ ss) = partsOf chars s ++ (wordsOfSize 2 rows s ++ (wo
 
 -- ---- tokens
 
--- "Character offsets count scalar values, byte offsets count UTF-8 bytes, and a token has a start and end in each": of a span in a block that
--- starts at the given offsets
-unfoldable pub tokenOf : ℕ → ℕ → List ℕ → Span → Token
-tokenOf charBase byteBase chars s = record {
-  chars = record { 0 = charBase + s .start; 1 = charBase + s .end };
-  bytes = record { 0 = byteBase + byteLength (take (s .start) chars); 1 = byteBase + byteLength (take (s .end) chars) };
+-- where a block starts in the sentence: how many characters, bytes and code units of UTF-16 stand before it
+pub record Base : Type 0 where
+  pub chars : ℕ
+  pub bytes : ℕ
+  pub units : ℕ
+
+-- "Character offsets count scalar values, byte offsets count UTF-8 bytes, and a token has a start and end in each"; document 02, note 6: "each token
+-- carries a start and end in this third unit beside the other two". Of a span in a block that starts at the given place
+unfoldable pub tokenOf : Base → List ℕ → Span → Token
+tokenOf base chars s = record {
+  chars = record { 0 = base .chars + s .start; 1 = base .chars + s .end };
+  bytes = record { 0 = base .bytes + byteLength (take (s .start) chars); 1 = base .bytes + byteLength (take (s .end) chars) };
+  utf16 = record { 0 = base .units + unitLength (take (s .start) chars); 1 = base .units + unitLength (take (s .end) chars) };
 }
 
--- the numbers that a token takes in the token area, and how many
+-- the numbers that a token takes in the token area, and how many: characters, bytes, UTF-16
 abbrev pub numbersOf : Token → List ℕ
-numbersOf t = t .chars .0 ∷ t .chars .1 ∷ t .bytes .0 ∷ t .bytes .1 ∷ []
+numbersOf t = t .chars .0 ∷ t .chars .1 ∷ t .bytes .0 ∷ t .bytes .1 ∷ t .utf16 .0 ∷ t .utf16 .1 ∷ []
 
 abbrev pub tokenWidth : ℕ
-tokenWidth = 4
+tokenWidth = 6
 
 -- the tokens written so far, and the token area
 pub record Written : Type 0 where

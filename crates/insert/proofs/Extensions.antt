@@ -70,23 +70,23 @@ module _ {t₀ : CharTrie} {s : List ℕ} {number : ℤ} {goal t : CharTrie} {p 
   pub ends : (u : CharTrie) → length s ≤ at → u ≡ withWord t p number → u ≡ goal
   ends u past named = named ∙ sym (ap (λ (l : List ℕ). extend t p l node number) (no-more s at past) ∙ extend-end t p node number) ∙ here .same
 
-  module _ {c w : ℕ} (read : characterAt s at ≡ Char c w) {next : Step} {u : CharTrie} (made : stepped next u ≡ newStep t p c node) where
+  module _ {c w units : ℕ} (read : characterAt s at ≡ Char c w units) {next : Step} {u : CharTrie} (made : stepped next u ≡ newStep t p c node) where
     split : characters (drop at s) ≡ c ∷ characters (drop (at + w) s)
-    split = one-more s at (here .well-formed) c w read
+    split = one-more s at (here .well-formed) c w units read
 
     pub stops : OneOf (1 ∷ 2 ∷ []) (tagOf Step·type.the-type next) → u ≡ goal
     stops other = extend-stops t p c _ _ node number split next u made other ∙ here .same
 
     pub goes-on : {q : ParentRef} → SlotCount (length (t₀ .keys)) → next ≡ At q → Extending t₀ s number goal u q (at + w) (node + 1)
     goes-on {q} allowed e =
-        let width = inside s at c w read in
+        let width = inside s at c w units read in
         let room = here .room in
         let longer : SameLengths u t = rw (ap (λ (x : Stepped). x .trie) made) (new-step-keeps t p c node) in
         record {
           long = then-same longer (here .long);
           inside = inside-same _ _ _ _ q (sym (here .long .rootChildren)) (sym (here .long .keys))
               (new-inside t p c node (slots-same _ _ (here .long .keys) allowed) next u q made e);
-          well-formed = still-chars s at (here .well-formed) c w read;
+          well-formed = still-chars s at (here .well-formed) c w units read;
           room = omega arith;
           same = extend-on t p c _ _ node number split next u q made e ∙ here .same;
         }

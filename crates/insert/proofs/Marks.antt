@@ -76,10 +76,10 @@ module _ {rootChildren₀ keys₀ children₀ s rootChildren keys children : Lis
   unfolding Ready reachOf charsFrom
   ends past = ((here .inside, here .well-formed), λ rootWords words. mark-end _ p _ (no-more s at past) ∙ here .same rootWords words)
 
-  module _ {c w : ℕ} (read : characterAt s at ≡ Char c w) {next : Step}
+  module _ {c w u : ℕ} (read : characterAt s at ≡ Char c w u) {next : Step}
       (opened : (rootWords words : List ℤ) → next ≡ openStep (trieOf rootChildren rootWords keys children words) p c) where
     split : characters (drop at s) ≡ c ∷ characters (drop (at + w) s)
-    split = one-more s at (here .well-formed) c w read
+    split = one-more s at (here .well-formed) c w u read
 
     pub ends-absent : next ≡ Nothing → Marks rootChildren₀ keys₀ children₀ s rootChildren keys children (UpTo p at)
     unfolding Ready reachOf charsFrom
@@ -105,7 +105,7 @@ module _ {rootChildren₀ keys₀ children₀ s rootChildren keys children : Lis
             slots = ap (λ (t : CharTrie). length (t .keys)) (bits [] []) ∙ kept .keys ∙ here .slots;
             child-slots = ap (λ (t : CharTrie). length (t .children)) (bits [] []) ∙ kept .children ∙ here .child-slots;
             inside = inside-same _ _ _ _ q (sym (here .entries)) (sym (here .slots)) below;
-            well-formed = still-chars s at (here .well-formed) c w read;
+            well-formed = still-chars s at (here .well-formed) c w u read;
             same = λ rootWords words. mark-there _ p c _ _ split next (opened rootWords words) q _ e (bits rootWords words) ∙ here .same rootWords words;
           }
 

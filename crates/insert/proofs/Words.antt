@@ -21,8 +21,8 @@ module _ (s : List ℕ) (at : ℕ) where
   unfolding characters charsFrom
   no-more past = rw (from-end s at past)
 
-  pub one-more : IsSome (charsFrom s at) → (c w : ℕ) → characterAt s at ≡ Char c w → characters (drop at s) ≡ c ∷ characters (drop (at + w) s)
+  pub one-more : IsSome (charsFrom s at) → (c w u : ℕ) → characterAt s at ≡ Char c w u → characters (drop at s) ≡ c ∷ characters (drop (at + w) s)
   unfolding characters charsFrom
-  one-more well-formed c w read =
-      ap (λ (chars : Option (List ℕ)). Option·getD chars []) (from-char s at c w read)
-      ∙ first-and-rest c (charsFrom s (at + w)) (still-chars s at well-formed c w read)
+  one-more well-formed c w u read =
+      ap (λ (chars : Option (List ℕ)). Option·getD chars []) (from-char s at c w u read)
+      ∙ first-and-rest c (charsFrom s (at + w)) (still-chars s at well-formed c w u read)

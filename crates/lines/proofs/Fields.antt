@@ -44,12 +44,12 @@ module _ (p : ℕ → Bool) (s : List ℕ) (at : ℕ) where
   past-none c none h e = absurd h
   past-none c (some cs) h e = rw e (omega arith)
 
-  module _ (h : IsSome (charsFrom s at)) (c w : ℕ) (r : characterAt s at ≡ Char c w) where
+  module _ (h : IsSome (charsFrom s at)) (c w u : ℕ) (r : characterAt s at ≡ Char c w u) where
     first : charsFrom s at ≡ before c (charsFrom s (at + w))
-    first = from-char s at c w r
+    first = from-char s at c w u r
 
     pub pass : p c ≡ true → past p (at + w) (charsFrom s (at + w)) ≡ past p at (charsFrom s at)
-    pass e = rw first (past-more c w (charsFrom s (at + w)) (width-of s at c w r) (rw first at h) e)
+    pass e = rw first (past-more c w (charsFrom s (at + w)) (width-of s at c w u r) (rw first at h) e)
 
     pub stop : p c ≡ false → at ≡ past p at (charsFrom s at)
     stop e = rw first (past-none c (charsFrom s (at + w)) (rw first at h) e)

@@ -24,8 +24,8 @@ fours (n ∷ ns) = four n ++ fours ns
 abbrev pub lineEnd : ℕ
 lineEnd = 0x0A
 
--- "the returned number (two digits), line or token count (four), then per token character start, end, byte start, end (four each)": the tokens'
--- numbers in their order
+-- "the returned number (two digits), line or token count (four), then per token character start, end, byte start, end (four each)", and document 02,
+-- note 6: UTF-16 offsets "after the byte offsets, four digits each": the tokens' numbers in their order
 unfoldable pub lineOf : ℕ → ℕ → List ℕ → List ℕ
 lineOf number count numbers = two number ++ (four count ++ (fours numbers ++ (lineEnd ∷ [])))
 

@@ -9,6 +9,7 @@ use lib.ListN.{length, take}
 use Rattle.classes.specs.Blocks.{cutClass, cutAllClass}
 use Rattle.utf8.specs.Text.{charsFrom}
 use Rattle.utf8.specs.Encoding.{byteLength}
+use Rattle.utf8.specs.Utf16.{unitLength}
 use Rattle.cuts.specs.Blocks.{blocksOf}
 use Rattle.cuts.specs.Slices.{Characters, Offsets}
 use Rattle.runs.specs.declared.CharacterClass.{CharacterClass}
@@ -25,8 +26,8 @@ unfoldable pub textFrom : List ℕ → ℕ → List ℕ
 textFrom s at = elim (charsFrom s at) [ none ↦ [] | some cs ↦ cs ]
 
 -- the run that starts at a position is the first block of the text from there on; the other blocks are those of the text from its end on; and the
--- slices have its characters, and the byte offsets of these and of its end
-pub record Recorded (class : ℕ → Bool) (s : List ℕ) (at : ℕ) (r : Run) (chars offsets : List ℕ) : Type 0 where
+-- slices have its characters, and the places of these and of its end. `from` is the position in UTF-16 code units
+pub record Recorded (class : ℕ → Bool) (s : List ℕ) (at from : ℕ) (r : Run) (chars offsets : List ℕ) : Type 0 where
   pub fits : r .chars < length chars
   pub forward : at < r .end
   pub inside : r .end ≤ length s
@@ -34,5 +35,6 @@ pub record Recorded (class : ℕ → Bool) (s : List ℕ) (at : ℕ) (r : Run) (
   pub block : blocksOf class (textFrom s at) ≡ record { matched = r .matched; chars = take (r .chars) chars } ∷ blocksOf class (textFrom s (r .end))
   pub counted : length (textFrom s at) ≡ r .chars + length (textFrom s (r .end))
   pub bytes : r .end ≡ at + byteLength (take (r .chars) chars)
+  pub units : r .units ≡ from + unitLength (take (r .chars) chars)
   pub characters : Characters (r .chars) chars
-  pub offset : Offsets at (take (r .chars) chars) offsets
+  pub offset : Offsets at from (take (r .chars) chars) offsets

@@ -12,8 +12,8 @@ use Rattle.classes.specs.Ranges.{Range, codePoint, inRange, inRanges}
 use Rattle.classes.specs.Blocks.{han, asciiLetterOrDigit, cutSign, cutClass}
 use Rattle.classes.specs.Tokens.{connector}
 use Rattle.book.specs.Prefixes.{Edge}
-use Rattle.cuts.specs.Tokens.{Span, anyOf, those, charsBetween, partsOf, heldBetween, stretches, wordsOfSize, searched, Written}
-use Rattle.cuts.specs.Cuts.{andThen, Base, putSpans}
+use Rattle.cuts.specs.Tokens.{Span, anyOf, those, charsBetween, partsOf, heldBetween, stretches, wordsOfSize, searched, Base, Written}
+use Rattle.cuts.specs.Cuts.{andThen, putSpans}
 use Rattle.cuts.proofs.Sequence.{put-both}
 use Rattle.search.specs.Brought.{broughtBy}
 

@@ -6,8 +6,8 @@ use Prim.Native.Nat.{ℕ}
 use Rattle.book.specs.Returns.{isDone}
 use Rattle.book.specs.Prefixes.{Edge}
 use Rattle.cuts.specs.declared.Cut.{Cut}
-use Rattle.cuts.specs.Tokens.{Span, partsOf, wordsOfSize, Written, written}
-use Rattle.cuts.specs.Cuts.{CutAnswer, cutAnswer, Base, putSpans}
+use Rattle.cuts.specs.Tokens.{Span, partsOf, wordsOfSize, Base, Written, written}
+use Rattle.cuts.specs.Cuts.{CutAnswer, cutAnswer, putSpans}
 use Rattle.cuts.proofs.Sequence.{stops-there, goes-on-there}
 use Rattle.search.specs.Brought.{broughtBy}
 

@@ -8,8 +8,8 @@ ghost use Rattle.trie.specs.Lent.{was, became};
 ghost use Rattle.book.specs.Returns.{longestText};
 ghost use Rattle.route.specs.Slices.{rowsOf};
 ghost use Rattle.cuts.specs.Slices.{Placed};
-ghost use Rattle.cuts.specs.Tokens.{span, written};
-ghost use Rattle.cuts.specs.Cuts.{Base, cutAnswer, putSpans};
+ghost use Rattle.cuts.specs.Tokens.{span, Base, written};
+ghost use Rattle.cuts.specs.Cuts.{cutAnswer, putSpans};
 ghost use Rattle.search_words.specs.Rising.{EndsRise};
 ghost use Rattle.search.specs.Brought.{broughtBy};
 use cuts::Cut;
@@ -17,7 +17,7 @@ use cuts::Cut;
 // What the token from x up to y brings: its parts, its held words of two characters, those of three, and itself.
 pub fn search_token(
     chars: &[u32],
-    offsets: &[u32],
+    offsets: &[u64],
     starts: &[usize],
     edge_ends: &[u32],
     base: u32,

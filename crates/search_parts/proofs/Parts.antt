@@ -1,7 +1,7 @@
 -- The parts of a token between its connectors: the loop of `next_part`, which finds where a part ends, and what the parts from a position on are, by the
 -- part that starts there. A part ends at the first connector; so it is the first of the parts that are left, and they go on behind that connector.
 -- Assumes nothing.
-use Prim.Native.Nat.{ℕ, zero, suc, _+_, _-_, _≤_, _<_}
+use Prim.Native.Nat.{ℕ, zero, suc, _+_, _-_, _≤_, _<_, _%_, _^_}
 use mathlib.Core.Bool.{Bool, true, false, not, _||_, or-true, or-false, and-false}
 use mathlib.Core.List.{List, [], _∷_, _++_}
 use mathlib.Core.Path.{_≡_, sym, ap, _∙_}
@@ -14,11 +14,11 @@ use Rattle.utf8.specs.Encoding.{byteLength}
 use Rattle.utf8.proofs.Positions.{byte-length-append}
 use Rattle.classes.specs.Tokens.{connector, asciiLetter}
 use Rattle.cuts.specs.Slices.{Placed}
-use Rattle.cuts.specs.Tokens.{Span, span, anyOf, those, parts, charsBetween, searchable, partsOf}
-use Rattle.cuts.specs.Cuts.{Base}
+use Rattle.cuts.specs.Tokens.{Span, span, anyOf, those, parts, charsBetween, searchable, partsOf, Base}
 use Rattle.tokens.proofs.Ends.{Running, run-begins, run-on, run-stops, run-ends}
 use Rattle.search_parts.specs.declared.Part.{Part}
 use Rattle.search_parts.specs.Parts.{PartFrom}
+use Rattle.cuts.proofs.Offsets.{bytes-at}
 use Rattle.cuts.proofs.Lists.{those-first, those-kept, those-left, any-more, between-none, between-next, between-more, before-and-between, between-in-block}
 
 -- no connector stands at a position
@@ -172,18 +172,20 @@ module _ (cs : List ℕ) (y : ℕ) (long : y ≤ length cs) where
 module _ (place : Base) (base : ℕ) (cs offsets : List ℕ) (from end : ℕ) (lettered : Bool)
     (known : Placed place base cs offsets) (forward : from ≤ end) (inside : end ≤ length cs)
     (letters : lettered ≡ anyOf asciiLetter (charsBetween cs (span from end))) where
-  apart : getD offsets end 0 ≡ getD offsets from 0 + byteLength (charsBetween cs (span from end))
+  -- its byte offsets, as `byte_offset` has them of its places
+  apart : getD offsets end 0 % 2 ^ 32 ≡ getD offsets from 0 % 2 ^ 32 + byteLength (charsBetween cs (span from end))
   apart =
       let all : byteLength (take end cs) ≡ byteLength (take from cs) + byteLength (charsBetween cs (span from end)) =
       ap byteLength (before-and-between cs from end forward) ∙ byte-length-append (take from cs) (charsBetween cs (span from end)) in
-      omega (arith, all, known .from from (omega arith), known .from end inside)
+      omega (arith, all, bytes-at known from (omega arith), bytes-at known end inside)
 
-  pub taken : lettered ≡ true → getD offsets from 0 + 2 ≤ getD offsets end 0 → those (searchableIn cs) (span from end ∷ []) ≡ span from end ∷ []
+  pub taken : lettered ≡ true → getD offsets from 0 % 2 ^ 32 + 2 ≤ getD offsets end 0 % 2 ^ 32
+      → those (searchableIn cs) (span from end ∷ []) ≡ span from end ∷ []
   taken e h =
       those-kept (searchableIn cs) (span from end)
       (rw (le-leb 2 (byteLength (charsBetween cs (span from end))) (omega (arith, apart)), ← letters, e))
 
-  pub too-short : getD offsets end 0 < getD offsets from 0 + 2 → those (searchableIn cs) (span from end ∷ []) ≡ []
+  pub too-short : getD offsets end 0 % 2 ^ 32 < getD offsets from 0 % 2 ^ 32 + 2 → those (searchableIn cs) (span from end ∷ []) ≡ []
   too-short h =
       those-left (searchableIn cs) (span from end)
       (rw (lt-leb 2 (byteLength (charsBetween cs (span from end))) (omega (arith, apart))))

@@ -11,8 +11,8 @@ use Rattle.book.specs.Returns.{isDone}
 use Rattle.classes.specs.Tokens.{asciiLetter}
 use Rattle.cuts.specs.declared.Cut.{Cut}
 use Rattle.cuts.specs.Slices.{Placed}
-use Rattle.cuts.specs.Tokens.{Span, span, anyOf, those, charsBetween, searchable, partsOf, written}
-use Rattle.cuts.specs.Cuts.{CutAnswer, answer, cutAnswer, Base, putSpans}
+use Rattle.cuts.specs.Tokens.{Span, span, anyOf, those, charsBetween, searchable, partsOf, Base, written}
+use Rattle.cuts.specs.Cuts.{CutAnswer, answer, cutAnswer, putSpans}
 use Rattle.cuts.proofs.Sequence.{all-put, stops-there, goes-on-there}
 use Rattle.cuts.proofs.Lists.{block-long}
 use Rattle.search_parts.specs.declared.Part.{Part}

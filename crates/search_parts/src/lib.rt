@@ -2,7 +2,7 @@
 //! letter.
 //!
 //! The Rust splits the token's text and counts the characters before each part from the token's start. Here a token is a stretch of
-//! a block, whose characters and byte offsets stand in slices, so that a part is found by one look at each character and counted by
+//! a block, whose characters and their places stand in slices, so that a part is found by one look at each character and counted by
 //! none.
 ghost use mathlib.Core.Path.{_≡_};
 ghost use mathlib.Core.List.{List, [], _∷_};
@@ -12,8 +12,8 @@ ghost use Rattle.trie.specs.Lent.{was, became};
 ghost use Rattle.classes.specs.Tokens.{asciiLetter};
 ghost use Rattle.book.specs.Returns.{longestText};
 ghost use Rattle.cuts.specs.Slices.{Placed};
-ghost use Rattle.cuts.specs.Tokens.{span, anyOf, those, charsBetween, searchable, partsOf, written};
-ghost use Rattle.cuts.specs.Cuts.{Base, cutAnswer, putSpans};
+ghost use Rattle.cuts.specs.Tokens.{span, anyOf, those, charsBetween, searchable, partsOf, Base, written};
+ghost use Rattle.cuts.specs.Cuts.{cutAnswer, putSpans};
 ghost use Rattle.search_parts.specs.Parts.{PartFrom};
 use book::Outcome;
 use cuts::Cut;
@@ -58,7 +58,7 @@ fn next_part(chars: &[u32], from: usize, to: usize) -> Part
 
 // Writes a part, if it is one to search for: of at least 2 bytes, with an ASCII letter.
 fn emit_part(
-    offsets: &[u32],
+    offsets: &[u64],
     base: u32,
     from: usize,
     part: Part,
@@ -73,7 +73,8 @@ fn emit_part(
 {
     let end = part.end;
     if part.lettered {
-        if offsets[from] as usize + 2 <= offsets[end] as usize {
+        let start = cuts::byte_offset(offsets[from]) as usize;
+        if start + 2 <= cuts::byte_offset(offsets[end]) as usize {
             return tokens::emit_span(offsets, base, from, end, tokens, count);
         }
     }
@@ -86,7 +87,7 @@ fn emit_part(
 // The parts of the token from x up to y, between its connectors. A token without one is its own only part, and brings none.
 pub fn emit_parts(
     chars: &[u32],
-    offsets: &[u32],
+    offsets: &[u64],
     base: u32,
     x: usize,
     y: usize,

@@ -13,8 +13,8 @@ use Rattle.book.specs.Returns.{isDone}
 use Rattle.route.specs.Slices.{rowsOf}
 use Rattle.cuts.specs.declared.Cut.{Cut}
 use Rattle.cuts.specs.Slices.{Placed}
-use Rattle.cuts.specs.Tokens.{Span, span, those, heldBetween, wordsOfSize, written}
-use Rattle.cuts.specs.Cuts.{CutAnswer, answer, cutAnswer, Base, putSpans}
+use Rattle.cuts.specs.Tokens.{Span, span, those, heldBetween, wordsOfSize, Base, written}
+use Rattle.cuts.specs.Cuts.{CutAnswer, answer, cutAnswer, putSpans}
 use Rattle.cuts.proofs.Sequence.{all-put, stops-there, goes-on-there}
 use Rattle.search_words.proofs.Words.{wordsLeft, word-then, no-words, all-words, too-few}
 

@@ -9,8 +9,8 @@ ghost use Rattle.trie.specs.Lent.{was, became};
 ghost use Rattle.book.specs.Returns.{longestText};
 ghost use Rattle.route.specs.Slices.{rowsOf};
 ghost use Rattle.cuts.specs.Slices.{Placed};
-ghost use Rattle.cuts.specs.Tokens.{span, those, heldBetween, wordsOfSize, written};
-ghost use Rattle.cuts.specs.Cuts.{Base, cutAnswer, putSpans};
+ghost use Rattle.cuts.specs.Tokens.{span, those, heldBetween, wordsOfSize, Base, written};
+ghost use Rattle.cuts.specs.Cuts.{cutAnswer, putSpans};
 ghost use Rattle.search_words.specs.Rising.{EndsRiseAt, EndsRise};
 use book::Outcome;
 use cuts::Cut;
@@ -35,7 +35,7 @@ fn word_at(starts: &[usize], edge_ends: &[u32], at: usize, end: usize) -> bool
 
 // Writes the stretch from one position up to another, if it is a held word.
 fn push_gram(
-    offsets: &[u32],
+    offsets: &[u64],
     starts: &[usize],
     edge_ends: &[u32],
     base: u32,
@@ -63,7 +63,7 @@ fn push_gram(
 // The held words of so many characters in the token from x up to y, if it has more characters than that.
 pub fn emit_words(
     size: usize,
-    offsets: &[u32],
+    offsets: &[u64],
     starts: &[usize],
     edge_ends: &[u32],
     base: u32,

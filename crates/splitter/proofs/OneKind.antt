@@ -49,9 +49,9 @@ module _ (class : ℕ → Bool) where
   each-of m (c ∷ cs) all (suc i) h = each-of m cs (all .1) i (omega arith)
 
 -- a run that is recorded
-pub one-kind : (class : ℕ → Bool) (s : List ℕ) (at : ℕ) (r : Run) (chars offsets : List ℕ) → Recorded class s at r chars offsets
+pub one-kind : (class : ℕ → Bool) (s : List ℕ) (at from : ℕ) (r : Run) (chars offsets : List ℕ) → Recorded class s at from r chars offsets
     → (i : ℕ) → i < r .chars → class (getD chars i 0) ≡ r .matched
-one-kind class s at r chars offsets run i h =
+one-kind class s at from r chars offsets run i h =
     sym (ap class (getD-take (r .chars) chars i 0 h))
     ∙ each-of class (r .matched) (take (r .chars) chars) (subst (FirstOf class) (run .block) (first-of class (textFrom s at))) i
     (omega (arith, length-take-le (r .chars) chars (omega (arith, run .fits))))

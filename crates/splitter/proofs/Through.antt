@@ -17,6 +17,7 @@ use Rattle.utf8.specs.Text.{charsFrom}
 use Rattle.utf8.proofs.Positions.{from-malformed, inside, not-within}
 use Rattle.walk.proofs.Characters.{chars-start}
 use Rattle.cuts.specs.Blocks.{Block}
+use Rattle.cuts.specs.Slices.{packed}
 use Rattle.runs.specs.declared.CharacterClass.{CharacterClass}
 use Rattle.runs.specs.declared.Run.{Run}
 use Rattle.splitter.specs.declared.SplitByCharacterClass.{SplitByCharacterClass}
@@ -30,39 +31,40 @@ use Rattle.splitter.proofs.Turns.{blocks-in-turn}
 -- ---- a run
 
 module _ (class : ℕ → Bool) (s : List ℕ) (at : ℕ) where
-  -- a run that starts there, recorded
+  -- a run that starts there, recorded with UTF-16 offsets that count from it
   abbrev ARun : Type 0
-  ARun = (r : Run) × (chars : List ℕ) × (offsets : List ℕ) × Recorded class s at r chars offsets
+  ARun = (r : Run) × (chars : List ℕ) × (offsets : List ℕ) × Recorded class s at 0 r chars offsets
 
   malformed-not : (end : ℕ) → IsSome (charsFrom s end) → characterAt s end ≡ Malformed → ⊥
   malformed-not end well-formed e = rw (from-malformed s end e) at well-formed
 
   -- what is recorded so far is the run, or its next character is of the run's kind
-  module _ (matched : Bool) (n end : ℕ) (chars offsets : List ℕ) (so-far : Recording class s at matched n end chars offsets) (some-read : 1 ≤ n)
+  module _ (matched : Bool) (n end reached : ℕ) (chars offsets : List ℕ) (so-far : Recording class s at 0 matched n end reached chars offsets) (some-read : 1 ≤ n)
       (forward : at + n ≤ end) where
     stop : EndsBefore class matched (textFrom s end) → ARun
-    stop ends = (_, _, _, run-recorded class s at matched n end chars offsets so-far ends some-read (omega arith))
+    stop ends = (_, _, _, run-recorded class s at 0 matched n end reached chars offsets so-far ends some-read (omega arith) _ refl)
 
-    run-or-more : ((c w : ℕ) → characterAt s end ≡ Char c w → class c ≡ matched → ARun) → ARun
+    run-or-more : ((c w u : ℕ) → characterAt s end ≡ Char c w u → class c ≡ matched → ARun) → ARun
     run-or-more more = reads (characterAt s end) refl
       where
-        takes : (c w : ℕ) → characterAt s end ≡ Char c w → (other : Bool) → not (Bool·beq (class c) matched) ≡ other → ARun
-        takes c w e true other = stop (ends-at-character class s at matched n end chars offsets so-far c w (class c) e refl other)
-        takes c w e false same = more c w e (same-kind (class c) matched same)
+        takes : (c w u : ℕ) → characterAt s end ≡ Char c w u → (other : Bool) → not (Bool·beq (class c) matched) ≡ other → ARun
+        takes c w u e true other = stop (ends-at-character class s at 0 matched n end reached chars offsets so-far c w u (class c) e refl other)
+        takes c w u e false same = more c w u e (same-kind (class c) matched same)
 
         reads : (ch : Character) → characterAt s end ≡ ch → ARun
-        reads End e = stop (ends-with-text class s at matched n end chars offsets so-far (not-within s end e))
+        reads End e = stop (ends-with-text class s at 0 matched n end reached chars offsets so-far (not-within s end e))
         reads Malformed e = absurd (malformed-not end (so-far .well-formed) e)
-        reads (Char c w) e = takes c w e (not (Bool·beq (class c) matched)) refl
+        reads (Char c w u) e = takes c w u e (not (Bool·beq (class c) matched)) refl
 
   -- and so on, with the bytes that are left
-  go-on : (left : ℕ) (matched : Bool) (n end : ℕ) (chars offsets : List ℕ) → length s < end + left → 1 ≤ n → at + n ≤ end
-      → Recording class s at matched n end chars offsets → ARun
-  go-on zero matched n end chars offsets enough some-read forward so-far = absurd (omega (arith, so-far .inside-text))
-  go-on (suc left) matched n end chars offsets enough some-read forward so-far =
-      run-or-more matched n end chars offsets so-far some-read forward
-      (λ c w e same. go-on left matched (n + 1) (end + w) _ _ (omega (arith, inside s end c w e)) (omega arith) (omega (arith, inside s end c w e))
-      (one-more-read class s at matched n end chars offsets so-far c w e same))
+  go-on : (left : ℕ) (matched : Bool) (n end reached : ℕ) (chars offsets : List ℕ) → length s < end + left → 1 ≤ n → at + n ≤ end
+      → Recording class s at 0 matched n end reached chars offsets → ARun
+  go-on zero matched n end reached chars offsets enough some-read forward so-far = absurd (omega (arith, so-far .inside-text))
+  go-on (suc left) matched n end reached chars offsets enough some-read forward so-far =
+      run-or-more matched n end reached chars offsets so-far some-read forward
+      (λ c w u e same.
+      go-on left matched (n + 1) (end + w) (reached + packed w u) _ _ (omega (arith, inside s end c w u e)) (omega arith) (omega (arith, inside s end c w u e))
+      (one-more-read class s at 0 matched n end reached chars offsets so-far c w u e same _ refl))
 
   pub a-run : at < length s → IsSome (charsFrom s at) → ARun
   a-run within well-formed = reads (characterAt s at) refl
@@ -76,9 +78,10 @@ module _ (class : ℕ → Bool) (s : List ℕ) (at : ℕ) where
       reads : (ch : Character) → characterAt s at ≡ ch → ARun
       reads End e = absurd (omega (arith, not-within s at e))
       reads Malformed e = absurd (malformed-not at well-formed e)
-      reads (Char c w) e =
-          go-on (length s) (class c) (0 + 1) (at + w) _ _ (omega (arith, inside s at c w e)) (omega arith) (omega (arith, inside s at c w e))
-          (one-more-read class s at (class c) 0 at room room (nothing-read class s at (class c) room room within well-formed enough enough) c w e refl)
+      reads (Char c w u) e =
+          go-on (length s) (class c) (0 + 1) (at + w) (packed at 0 + packed w u) _ _ (omega (arith, inside s at c w u e)) (omega arith) (omega (arith, inside s at c w u e))
+          (one-more-read class s at 0 (class c) 0 at (packed at 0) room room
+          (nothing-read class s at 0 (class c) room room within well-formed enough enough (packed at 0) refl) c w u e refl _ refl)
 
 -- ---- and the turns
 
@@ -100,7 +103,7 @@ module _ (class : CharacterClass) where
       let run = a-run (classOf class) (now (d .text)) (d .pos) (ltb-true _ _ one) well-formed in
       let recorded = run .3 in
       let rest = turns left (movedTo d (run .0 .end)) (omega (arith, recorded .forward)) (recorded .inside) (recorded .well-formed) in
-      (_, turned (run .0) (run .1) (run .2) one recorded (rest .1)))
+      (_, turned (run .0) 0 (run .1) (run .2) one recorded (rest .1)))
       (hasNext d) refl
 
 pub every-text-in-turn : EveryTextInTurn

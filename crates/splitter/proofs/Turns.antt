@@ -19,7 +19,7 @@ blocks-left : (class : CharacterClass) (d : SplitByCharacterClass) (bs : List Bl
     → bs ≡ blocksOf (classOf class) (textFrom (now (d .text)) (d .pos))
 unfolding blocksOf
 blocks-left class d [] (ended no-run) = rw (text-end (now (d .text)) (d .pos) (ltb-false _ _ no-run)) refl
-blocks-left class d (b ∷ bs) (turned run chars offsets a-run recorded next) =
+blocks-left class d (b ∷ bs) (turned run from chars offsets a-run recorded next) =
     ap (λ (rest : List Block). blockOf (run .matched) (take (run .chars) chars) ∷ rest) (blocks-left class _ bs next) ∙ sym (recorded .block)
 
 pub blocks-in-turn : BlocksInTurn

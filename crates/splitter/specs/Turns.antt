@@ -34,13 +34,13 @@ hasNext d = within (now (d .text)) (d .pos)
 -- ---- its way through a text
 
 -- The turns of a splitter, until it has no run before it, with the block of each. A turn is known by what its calls answered, and of these their contracts
--- hold: `next_recording` at the splitter's text and position answered a run, and left its characters in `chars` and its offsets in `offsets`; the next turn
--- is that of the splitter which `moved` answered.
+-- hold: `next_recording` at the splitter's text and position answered a run, and left its characters in `chars` and their places in `offsets`, counted from
+-- the UTF-16 offset `from`; the next turn is that of the splitter which `moved` answered.
 pub data InTurn (class : CharacterClass) : SplitByCharacterClass → List Block → Type 0 where
   ended : {d : SplitByCharacterClass} → hasNext d ≡ false → InTurn class d []
-  turned : {d : SplitByCharacterClass} {bs : List Block} (run : Run) (chars offsets : List ℕ)
+  turned : {d : SplitByCharacterClass} {bs : List Block} (run : Run) (from : ℕ) (chars offsets : List ℕ)
       → hasNext d ≡ true
-      → Recorded (classOf class) (now (d .text)) (d .pos) run chars offsets
+      → Recorded (classOf class) (now (d .text)) (d .pos) from run chars offsets
       → InTurn class (movedTo d (run .end)) bs
       → InTurn class d (blockOf (run .matched) (take (run .chars) chars) ∷ bs)
 

@@ -2,7 +2,7 @@
 //! `cut_for_search` are this call with one mode each. All three stand over `cut_sentence::cut_sentence`.
 //!
 //! The Rust takes its scratch from a thread and its tokens from the heap. Here the caller lends all of it. The work area is six
-//! slices, which a block fills from their start: its characters, their byte offsets, the place of each position's first edge,
+//! slices, which a block fills from their start: its characters, their offsets in the sentence, where each position's edges begin,
 //! and the route's scores, ends and records. The edge area is two, the edges' ends and records. The token area is one flat slice.
 ghost use mathlib.Core.Path.{_≡_};
 ghost use mathlib.Core.Bool.{false};
@@ -28,7 +28,7 @@ pub fn tokenize(
     sentence: &[u8],
     mode: TokenizeMode,
     chars: &mut [u32],
-    offsets: &mut [u32],
+    offsets: &mut [u64],
     starts: &mut [usize],
     scores: &mut [f64],
     ends: &mut [u32],

@@ -12,8 +12,8 @@ use Rattle.book.specs.declared.Outcome.the-variants.{Done}
 use Rattle.book.specs.Returns.{isDone}
 use Rattle.cuts.specs.declared.Cut.{Cut}
 use Rattle.cuts.specs.Slices.{Placed}
-use Rattle.cuts.specs.Tokens.{Span, span, written}
-use Rattle.cuts.specs.Cuts.{CutAnswer, answer, cutAnswer, Base, putSpans}
+use Rattle.cuts.specs.Tokens.{Span, span, Base, written}
+use Rattle.cuts.specs.Cuts.{CutAnswer, answer, cutAnswer, putSpans}
 use Rattle.cuts.proofs.Sequence.{all-put, stops-there, goes-on-there}
 
 -- a turn from x goes to y: these are the first spans left, and the others start there

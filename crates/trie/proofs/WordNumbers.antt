@@ -1,4 +1,4 @@
--- A stored word number, read by its tests: against -1, then for its sign, then against the records in use. The code has a signed number as its 32
+-- A stored word number, read by its tests: for its sign, then against -1 or against the records in use. The code has a signed number as its 32
 -- bits, `ofZ w32 z`, and takes the sign from them, `toZ w32`; a number that fits 32 bits comes back as it was.
 -- Assumes nothing.
 use Prim.Native.Nat.{ℕ, zero, suc, _≤_, _<_}

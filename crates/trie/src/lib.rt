@@ -127,10 +127,11 @@ pub fn word_number(words: &[i32], i: usize, used: usize) -> WordNumber
     ensures { λ r. ⌜ r ≡ wordNumber used (getD (was words) i noWord) ⌝ }
 {
     let w = words[i];
-    if w == -1 {
-        return WordNumber::NoWord;
-    }
+    // The sign first: of a word that is held, which is what a cut writes, two tests are enough.
     if w < 0 {
+        if w == -1 {
+            return WordNumber::NoWord;
+        }
         return WordNumber::Bad;
     }
     let n = w as usize;

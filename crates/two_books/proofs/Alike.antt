@@ -9,14 +9,13 @@ use Prim.Native.Nat.{ℕ, _+_, _%_, _≤_}
 use borrow.Author.Tests.{leb-true}
 use lib.Dec.{eqb, leb, ltb}
 use lib.ListN.{length}
-use Rattle.utf8.specs.Encoding.{byteLength}
 use Rattle.utf8.specs.Text.{charsOf}
 use Rattle.book.specs.declared.Outcome.the-variants.{BadAreas, TooLong, Damaged, WorkTooShort}
 use Rattle.book.specs.Returns.{longestText}
 use Rattle.cuts.specs.Blocks.{Block, onto, blocksOf}
 use Rattle.cuts.specs.Edges.{Vocabulary, walksOf}
-use Rattle.cuts.specs.Tokens.{Written, written, tokenWidth}
-use Rattle.cuts.specs.Cuts.{CutAnswer, answer, andThen, Base, cutBlock, cutAllBlock, searchBlock, cutBlocks, start, Tested, cutChars, cutWith}
+use Rattle.cuts.specs.Tokens.{Base, Written, written, tokenWidth}
+use Rattle.cuts.specs.Cuts.{CutAnswer, answer, andThen, cutBlock, cutAllBlock, searchBlock, behind, cutBlocks, start, Tested, cutChars, cutWith}
 use Rattle.cuts.proofs.Sequence.{then-alike}
 
 -- ---- the blocks are the sentence, cut in pieces
@@ -80,7 +79,7 @@ module _ (Q : List ℕ → Type 0) (shortens : Shortens Q) where
   unfolding cutBlocks
   blocks-alike one one′ same [] h base w = refl
   blocks-alike one one′ same (b ∷ bs) h base w =
-      let next : Base = record { chars = base .chars + length (b .chars); bytes = base .bytes + byteLength (b .chars) } in
+      let next : Base = behind base (b .chars) in
       then-alike (one base b w) (cutBlocks one next bs) (cutBlocks one′ next bs) (blocks-alike one one′ same bs (h .1) next)
       ∙ ap (λ (a : CutAnswer). andThen a (cutBlocks one′ next bs)) (same base b w (h .0))
 

@@ -8,6 +8,7 @@ use lib.Ieee.{span, climb, size, odd, units, round, neg, sum, add, sub, lt, eq, 
 use Rattle.utf8.specs.Text.{charsOf, charsWithin}
 use Rattle.utf8.specs.Characters.{readFrom}
 use Rattle.utf8.specs.Encoding.{byteLength, encode}
+use Rattle.utf8.specs.Utf16.{unitLength}
 use Rattle.lines.specs.Lines.{linesOf, meaningOf, fieldsOf, pieces, frequencyOf, number}
 use Rattle.classes.specs.WhiteSpace.{whiteSpace}
 use Rattle.classes.specs.Ranges.{inRanges}
@@ -37,7 +38,7 @@ use Rattle.two_books.specs.Examples.{oneBridge, otherBridge, command, le
 
 -- all of it by computation, under one list of the definitions that are computed
 examples : NotVacuous × EachPremiseNeeded
-unfolding charsOf charsWithin readFrom byteLength encode linesOf meaningOf fieldsOf pieces frequencyOf number whiteSpace inRanges cutClass han hanMain
+unfolding charsOf charsWithin readFrom byteLength encode unitLength linesOf meaningOf fieldsOf pieces frequencyOf number whiteSpace inRanges cutClass han hanMain
     hanExtension asciiLetterOrDigit cutSign joins connector asciiLetter getOf walk wordAt wordNumber testedStep openStep bitsAt fromRoot nodeAt
     probeOf probeFrom nextSlot startSlot log2 keyOf filterHash keyBit childBit reach newSlots withBits withWord emptyFrom emptySlot extend insert
     slotCount hasBit withBit allowed headDamaged emptyBook lookupOf decide emptySlots replaced inserted loadLines loadOf wordsFrom walkOn logFloat L

@@ -12,7 +12,6 @@ use lib.Dec.{eqb, leb, ltb}
 use lib.Ieee.{Float}
 use lib.ListN.{length}
 use Rattle.utf8.specs.Text.{charsOf}
-use Rattle.utf8.specs.Encoding.{byteLength}
 use Rattle.score.specs.Logarithm.{logFloat}
 use Rattle.book.specs.declared.Outcome.{Outcome}
 use Rattle.book.specs.declared.Outcome.the-variants.{Done, BadAreas, TooLong, Malformed, Damaged, WorkTooShort, EdgesFull, TokensFull}
@@ -20,9 +19,9 @@ use Rattle.book.specs.Returns.{numberOf, isDone, longestText}
 use Rattle.book.specs.Prefixes.{Edge, Walked}
 use Rattle.cuts.specs.Blocks.{Block, blocksOf}
 use Rattle.cuts.specs.Edges.{Vocabulary, walksOf, Edges, edges, stopped, before, edgesWithin}
-use Rattle.cuts.specs.Tokens.{Span, Written, written, put, hasPlace, tokenOf, tokenWidth}
-use Rattle.cuts.specs.Cuts.{CutAnswer, answer, andThen, Base, putSpans, cutEdges, cutBlock, searchEdges, searchBlock, spansOf, putWalks, cutAllBlock}
-use Rattle.cuts.specs.Cuts.{cutBlocks, Tested, cutChars, cutWith}
+use Rattle.cuts.specs.Tokens.{Span, Base, Written, written, put, hasPlace, tokenOf, tokenWidth}
+use Rattle.cuts.specs.Cuts.{CutAnswer, answer, andThen, putSpans, cutEdges, cutBlock, searchEdges, searchBlock, spansOf, putWalks, cutAllBlock}
+use Rattle.cuts.specs.Cuts.{behind, cutBlocks, Tested, cutChars, cutWith}
 use Rattle.cuts.proofs.Sequence.{goes-on, stops}
 
 abbrev pub Fine : CutAnswer → Type 0
@@ -44,10 +43,10 @@ fine-then a next f g = by (isDone (a .outcome)) refl
 fine-spans : (base : Base) (chars : List ℕ) (ss : List Span) (w : Written) → Fine (putSpans base chars w ss)
 unfolding putSpans
 fine-spans base chars [] w = other Done (λ z. omega arith)
-fine-spans base chars (s ∷ ss) w = by (fine-spans base chars ss (put w (tokenOf (base .chars) (base .bytes) chars s))) (hasPlace w)
+fine-spans base chars (s ∷ ss) w = by (fine-spans base chars ss (put w (tokenOf base chars s))) (hasPlace w)
   where
-    by : Fine (putSpans base chars (put w (tokenOf (base .chars) (base .bytes) chars s)) ss) → (t : Bool)
-        → Fine (elim t [ true ↦ putSpans base chars (put w (tokenOf (base .chars) (base .bytes) chars s)) ss | false ↦ answer TokensFull w ])
+    by : Fine (putSpans base chars (put w (tokenOf base chars s)) ss) → (t : Bool)
+        → Fine (elim t [ true ↦ putSpans base chars (put w (tokenOf base chars s)) ss | false ↦ answer TokensFull w ])
     by rest true = rest
     by rest false = other TokensFull (λ z. omega arith)
 
@@ -131,7 +130,7 @@ pub fine-blocks : (one : Base → Block → Written → CutAnswer) → ((base : 
 unfolding cutBlocks
 fine-blocks one fine [] base w = other Done (λ z. omega arith)
 fine-blocks one fine (b ∷ bs) base w =
-    let next : Base = record { chars = base .chars + length (b .chars); bytes = base .bytes + byteLength (b .chars) } in
+    let next : Base = behind base (b .chars) in
     fine-then (one base b w) (cutBlocks one next bs) (fine base b w) (fine-blocks one fine bs next)
 
 -- ---- the tests before

@@ -87,7 +87,7 @@ abbrev pub areas : ℕ → ℕ → ℕ → Areas
 areas work edges numbers = record { work = work; edges = edges; tokens = replicate numbers 7 }
 
 abbrev pub lent : Areas
-lent = areas 4 8 16
+lent = areas 4 8 24
 
 -- a cut is done, with so many tokens and these numbers in the token area
 abbrev pub done : ℕ → List ℕ → CutAnswer
@@ -95,13 +95,13 @@ done count numbers = Cuts.answer Done (written count numbers)
 
 -- what each cut of the command answers: 客厅灯; 客厅, 客厅灯 and 灯; 客厅 and 客厅灯
 abbrev pub oneWord : CutAnswer
-oneWord = done 1 (0 ∷ 3 ∷ 0 ∷ 9 ∷ replicate 12 7)
+oneWord = done 1 (0 ∷ 3 ∷ 0 ∷ 9 ∷ 0 ∷ 3 ∷ replicate 18 7)
 
 abbrev pub everyWord : CutAnswer
-everyWord = done 3 (0 ∷ 2 ∷ 0 ∷ 6 ∷ 0 ∷ 3 ∷ 0 ∷ 9 ∷ 2 ∷ 3 ∷ 6 ∷ 9 ∷ replicate 4 7)
+everyWord = done 3 (0 ∷ 2 ∷ 0 ∷ 6 ∷ 0 ∷ 2 ∷ 0 ∷ 3 ∷ 0 ∷ 9 ∷ 0 ∷ 3 ∷ 2 ∷ 3 ∷ 6 ∷ 9 ∷ 2 ∷ 3 ∷ replicate 6 7)
 
 abbrev pub searchWords : CutAnswer
-searchWords = done 2 (0 ∷ 2 ∷ 0 ∷ 6 ∷ 0 ∷ 3 ∷ 0 ∷ 9 ∷ replicate 8 7)
+searchWords = done 2 (0 ∷ 2 ∷ 0 ∷ 6 ∷ 0 ∷ 2 ∷ 0 ∷ 3 ∷ 0 ∷ 9 ∷ 0 ∷ 3 ∷ replicate 12 7)
 
 abbrev pub commandAnswer : Cutter → CutAnswer
 commandAnswer Cut = oneWord
@@ -145,21 +145,21 @@ noTie = runOf 1 16 4 small (inFours 3 29)
 
 -- 甲乙 as one token, and as two, in an area of two places
 abbrev pub oneToken : CutAnswer
-oneToken = done 1 (0 ∷ 2 ∷ 0 ∷ 6 ∷ replicate 4 7)
+oneToken = done 1 (0 ∷ 2 ∷ 0 ∷ 6 ∷ 0 ∷ 2 ∷ replicate 6 7)
 
 abbrev pub twoTokens : CutAnswer
-twoTokens = done 2 (0 ∷ 1 ∷ 0 ∷ 3 ∷ 1 ∷ 2 ∷ 3 ∷ 6 ∷ [])
+twoTokens = done 2 (0 ∷ 1 ∷ 0 ∷ 3 ∷ 0 ∷ 1 ∷ 1 ∷ 2 ∷ 3 ∷ 6 ∷ 1 ∷ 2 ∷ [])
 
 pub record EachPremiseNeeded : Type 0 where
   -- with another frequency on one stretch, 甲乙, and equal totals: one token or two
   pub totals : tie .book .head .total ≡ noTie .book .head .total
-  pub tied : Answered Cut (tie .book) (areas 3 8 8) pair oneToken
-  pub not-tied : Answered Cut (noTie .book) (areas 3 8 8) pair twoTokens
+  pub tied : Answered Cut (tie .book) (areas 3 8 12) pair oneToken
+  pub not-tied : Answered Cut (noTie .book) (areas 3 8 12) pair twoTokens
   -- with other totals, and the same words on every stretch of 甲乙: two tokens or one
   pub stretches : SameStretches (ledgerOf totalOfZero) (ledgerOf totalOfOne) pair
-  pub total-zero : Answered Cut (totalOfZero .book) (areas 3 8 8) pair twoTokens
-  pub total-one : Answered Cut (totalOfOne .book) (areas 3 8 8) pair oneToken
+  pub total-zero : Answered Cut (totalOfZero .book) (areas 3 8 12) pair twoTokens
+  pub total-one : Answered Cut (totalOfOne .book) (areas 3 8 12) pair oneToken
   -- in one book: with a work area one shorter, with an edge area of 2, and with a token area of one place
-  pub shorter-work : Answered Cut (oneBridge .book) (areas 3 8 16) command (Cuts.answer WorkTooShort (written 0 (replicate 16 7)))
-  pub shorter-edges : Answered Cut (oneBridge .book) (areas 4 2 16) command (Cuts.answer EdgesFull (written 0 (replicate 16 7)))
-  pub shorter-tokens : Answered CutForSearch (oneBridge .book) (areas 4 8 4) command (Cuts.answer TokensFull (written 1 (0 ∷ 2 ∷ 0 ∷ 6 ∷ [])))
+  pub shorter-work : Answered Cut (oneBridge .book) (areas 3 8 24) command (Cuts.answer WorkTooShort (written 0 (replicate 24 7)))
+  pub shorter-edges : Answered Cut (oneBridge .book) (areas 4 2 24) command (Cuts.answer EdgesFull (written 0 (replicate 24 7)))
+  pub shorter-tokens : Answered CutForSearch (oneBridge .book) (areas 4 8 6) command (Cuts.answer TokensFull (written 1 (0 ∷ 2 ∷ 0 ∷ 6 ∷ 0 ∷ 2 ∷ [])))

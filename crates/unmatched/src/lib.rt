@@ -5,8 +5,8 @@ ghost use lib.ListN.{length, take};
 ghost use Rattle.trie.specs.Lent.{was, became};
 ghost use Rattle.book.specs.Returns.{longestText};
 ghost use Rattle.cuts.specs.Slices.{Placed};
-ghost use Rattle.cuts.specs.Tokens.{singly, runsOf, written};
-ghost use Rattle.cuts.specs.Cuts.{Base, cutAnswer, putSpans};
+ghost use Rattle.cuts.specs.Tokens.{singly, runsOf, Base, written};
+ghost use Rattle.cuts.specs.Cuts.{cutAnswer, putSpans};
 ghost use Rattle.unmatched.specs.Joining.{joiningRun};
 use book::Outcome;
 use cuts::Cut;
@@ -14,7 +14,7 @@ use cuts::Cut;
 // The tokens of a block of n characters outside the class of `cut`: each character is one, and CR LF is one.
 pub fn cut_unmatched(
     chars: &[u32],
-    offsets: &[u32],
+    offsets: &[u64],
     n: usize,
     base: u32,
     tokens: &mut [u32],
@@ -68,7 +68,7 @@ fn joining_end(chars: &[u32], n: usize, from: usize) -> usize
 // each other character.
 pub fn cut_all_unmatched(
     chars: &[u32],
-    offsets: &[u32],
+    offsets: &[u64],
     n: usize,
     base: u32,
     tokens: &mut [u32],

@@ -14,6 +14,8 @@ use Rattle.utf8.specs.declared.Character.the-variants.{Char, Malformed, 
 use Rattle.utf8.specs.Characters.{readFrom, characterAt}
 use Rattle.utf8.specs.Encoding.{Scalar, encode}
 use Rattle.utf8.specs.Text.{charsFrom}
+use Rattle.utf8.specs.Utf16.{unitsOf}
+use Rattle.utf8.proofs.Utf16.{one-unit, two-units, units-encoded}
 use Rattle.utf8.proofs.Encodings.{below, digits-3, digits-4, encode-1, encode-2, encode-3, encode-4, reads-only-encodings}
 use Rattle.utf8.proofs.Texts.{end-nil, chars-malformed}
 
@@ -105,32 +107,33 @@ module _ (b0 : ℕ) (bs : List ℕ) (x : ℕ) where
 
 -- ---- a text that is known to be well formed: its first byte says how many there are, and they spell the value
 
--- n bytes, six bits after six bits, spell the character at a position, above a part m that is the same for all that take n bytes
-abbrev pub Spells : List ℕ → ℕ → ℕ → ℕ → ℕ → Type 0
-Spells s at bytes m n = (m ≤ bytes) × (characterAt s at ≡ Char (bytes - m) n)
+-- n bytes, six bits after six bits, spell the character at a position, above a part m that is the same for all that take n bytes; and these take u units
+abbrev pub Spells : List ℕ → ℕ → ℕ → ℕ → ℕ → ℕ → Type 0
+Spells s at bytes m n u = (m ≤ bytes) × (characterAt s at ≡ Char (bytes - m) n u)
 
 module _ (s : List ℕ) (at : ℕ) (within : at < length s) (some-chars : IsSome (charsFrom s at)) (b0 : ℕ) (e0 : b0 ≡ getD s at 0) where
   abbrev later : List ℕ
   later = drop (suc at) s
 
   module _ (P : Type 0)
-      (one : b0 < 0x80 → characterAt s at ≡ Char b0 1 → P)
-      (two : (c : ℕ) → Two b0 later c → characterAt s at ≡ Char c 2 → P)
-      (three : (c : ℕ) → Three b0 later c → characterAt s at ≡ Char c 3 → P)
-      (four : (c : ℕ) → Four b0 later c → characterAt s at ≡ Char c 4 → P) where
+      (one : b0 < 0x80 → characterAt s at ≡ Char b0 1 1 → P)
+      (two : (c : ℕ) → Two b0 later c → characterAt s at ≡ Char c 2 1 → P)
+      (three : (c : ℕ) → Three b0 later c → characterAt s at ≡ Char c 3 1 → P)
+      (four : (c : ℕ) → Four b0 later c → characterAt s at ≡ Char c 4 2 → P) where
     by-lead : P
     unfolding characterAt charsFrom
     by-lead = go (characterAt s at) refl
       where
         go : (r : Character) → characterAt s at ≡ r → P
-        go (Char c w) e =
-            let q = reads-only-encodings (drop at s) c w e in
-            let sized : (n : ℕ) → length (encode c) ≡ n → characterAt s at ≡ Char c n = λ n l. e ∙ ap (Char c) (sym (q .1) ∙ l) in
+        go (Char c w u) e =
+            let q = reads-only-encodings (drop at s) c w u e in
+            let sized : (n m : ℕ) → length (encode c) ≡ n → unitsOf c ≡ m → characterAt s at ≡ Char c n m =
+            λ n m l k. e ∙ ap (λ (x : ℕ). Char c x u) (sym (q .1) ∙ l) ∙ ap (Char c n) (sym (q .3) ∙ sym (units-encoded c) ∙ k) in
             by-width P b0 later c (drop w (drop at s)) (q .2 ∙ drop-cons s at 0 within ∙ rw (← e0))
-            (λ l same n. one (omega arith) (sized 1 n ∙ ap (λ (x : ℕ). Char x 1) same))
-            (λ t n. two c t (sized 2 n))
-            (λ t n. three c t (sized 3 n))
-            (λ t n. four c t (sized 4 n))
+            (λ l same n. one (omega arith) (sized 1 1 n (one-unit c (omega arith)) ∙ ap (λ (x : ℕ). Char x 1 1) same))
+            (λ t n. two c t (sized 2 1 n (one-unit c (omega (arith, t .to)))))
+            (λ t n. three c t (sized 3 1 n (one-unit c (t .to))))
+            (λ t n. four c t (sized 4 2 n (two-units c (t .from))))
             (q .0)
         go Malformed e = absurd (rw (chars-malformed (drop at s) e) at some-chars)
         go End e = let n : length (drop at s) ≡ 0 = ap length (end-nil (drop at s) e) in absurd (omega (arith, length-drop at s))
@@ -160,12 +163,12 @@ module _ (s : List ℕ) (at : ℕ) (within : at < length s) (some-chars : IsSome
       (λ c t e. absurd (omega (arith, t .lead, t .to)))
       (λ c t e. omega (arith, t .room, length-drop (suc at) s))
 
-  spells : (bytes m n c : ℕ) → bytes ≡ c + m → characterAt s at ≡ Char c n → Spells s at bytes m n
-  spells bytes m n c e read = let v : c ≡ bytes - m = omega arith in (omega arith, read ∙ ap (λ (x : ℕ). Char x n) v)
+  spells : (bytes m n u c : ℕ) → bytes ≡ c + m → characterAt s at ≡ Char c n u → Spells s at bytes m n u
+  spells bytes m n u c e read = let v : c ≡ bytes - m = omega arith in (omega arith, read ∙ ap (λ (x : ℕ). Char x n u) v)
 
-  pub next-1 : b0 < 0x80 → characterAt s at ≡ Char b0 1
+  pub next-1 : b0 < 0x80 → characterAt s at ≡ Char b0 1 1
   next-1 h =
-      by-lead (characterAt s at ≡ Char b0 1)
+      by-lead (characterAt s at ≡ Char b0 1 1)
       (λ l e. e)
       (λ c t e. absurd (omega (arith, t .lead)))
       (λ c t e. absurd (omega (arith, t .lead)))
@@ -176,31 +179,31 @@ module _ (s : List ℕ) (at : ℕ) (within : at < length s) (some-chars : IsSome
   byte i j b e is = getD-drop (suc at) s i 0 ∙ rw (is, e)
 
   module _ (b1 : ℕ) (e1 : b1 ≡ getD s (at + 1) 0) where
-    pub next-2 : 0x80 ≤ b0 → b0 < 0xE0 → Spells s at (b0 * 0x40 + b1) 0x3080 2
+    pub next-2 : 0x80 ≤ b0 → b0 < 0xE0 → Spells s at (b0 * 0x40 + b1) 0x3080 2 1
     next-2 l h =
-        by-lead (Spells s at (b0 * 0x40 + b1) 0x3080 2)
+        by-lead (Spells s at (b0 * 0x40 + b1) 0x3080 2 1)
         (λ low e. absurd (omega arith))
-        (λ c t e. spells _ _ _ c (omega (arith, spelled-2 b0 later c t, byte 0 (at + 1) b1 (omega arith) e1)) e)
+        (λ c t e. spells _ _ _ _ c (omega (arith, spelled-2 b0 later c t, byte 0 (at + 1) b1 (omega arith) e1)) e)
         (λ c t e. absurd (omega (arith, t .lead)))
         (λ c t e. absurd (omega (arith, t .lead)))
 
     module _ (b2 : ℕ) (e2 : b2 ≡ getD s (at + 2) 0) where
-      pub next-3 : 0xE0 ≤ b0 → b0 < 0xF0 → Spells s at ((b0 * 0x40 + b1) * 0x40 + b2) 0xE2080 3
+      pub next-3 : 0xE0 ≤ b0 → b0 < 0xF0 → Spells s at ((b0 * 0x40 + b1) * 0x40 + b2) 0xE2080 3 1
       next-3 l h =
-          by-lead (Spells s at ((b0 * 0x40 + b1) * 0x40 + b2) 0xE2080 3)
+          by-lead (Spells s at ((b0 * 0x40 + b1) * 0x40 + b2) 0xE2080 3 1)
           (λ low e. absurd (omega arith))
           (λ c t e. absurd (omega (arith, t .lead, t .to)))
-          (λ c t e. spells _ _ _ c (omega (arith, spelled-3 b0 later c t, byte 0 (at + 1) b1 (omega arith) e1, byte 1 (at + 2) b2 (omega arith) e2)) e)
+          (λ c t e. spells _ _ _ _ c (omega (arith, spelled-3 b0 later c t, byte 0 (at + 1) b1 (omega arith) e1, byte 1 (at + 2) b2 (omega arith) e2)) e)
           (λ c t e. absurd (omega (arith, t .lead)))
 
       module _ (b3 : ℕ) (e3 : b3 ≡ getD s (at + 3) 0) where
-        pub next-4 : 0xF0 ≤ b0 → Spells s at (((b0 * 0x40 + b1) * 0x40 + b2) * 0x40 + b3) 0x3C82080 4
+        pub next-4 : 0xF0 ≤ b0 → Spells s at (((b0 * 0x40 + b1) * 0x40 + b2) * 0x40 + b3) 0x3C82080 4 2
         next-4 l =
-            by-lead (Spells s at (((b0 * 0x40 + b1) * 0x40 + b2) * 0x40 + b3) 0x3C82080 4)
+            by-lead (Spells s at (((b0 * 0x40 + b1) * 0x40 + b2) * 0x40 + b3) 0x3C82080 4 2)
             (λ low e. absurd (omega arith))
             (λ c t e. absurd (omega (arith, t .lead, t .to)))
             (λ c t e. absurd (omega (arith, t .lead, t .to)))
-            (λ c t e. spells _ _ _ c (omega (
+            (λ c t e. spells _ _ _ _ c (omega (
               arith,
               spelled-4 b0 later c t,
               byte 0 (at + 1) b1 (omega arith) e1,

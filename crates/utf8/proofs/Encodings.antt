@@ -14,9 +14,19 @@ use lib.ListN.{length, take, drop}
 use borrow.Author.Tests.{lt-ltb, le-ltb, le-leb, lt-leb, leb-true, leb-false, ltb-true, ltb-false}
 use Rattle.utf8.specs.declared.Character.{Character}
 use Rattle.utf8.specs.declared.Character.the-variants.{Char, Malformed, End}
-use Rattle.utf8.specs.Characters.{Octets, octets, tail, sequences, startsWith, characterNumber, readBy, readFrom}
+use Rattle.utf8.specs.Characters.{Octets, octets, tail, sequences, startsWith, characterNumber, character, readBy, readFrom}
 use Rattle.utf8.specs.Encoding.{Scalar, encode}
+use Rattle.utf8.specs.Utf16.{unitsOf}
 use Rattle.utf8.specs.Claims.{ReadsEncodings, ReadsOnlyEncodings}
+use Rattle.utf8.proofs.Utf16.{units-encoded}
+
+-- a number is below m or not
+pub below : (c m : ℕ) → (c < m) ⊎ (m ≤ c)
+below c m = go (ltb c m) refl
+  where
+    go : (t : Bool) → ltb c m ≡ t → (c < m) ⊎ (m ≤ c)
+    go true e = inl (ltb-true c m e)
+    go false e = inr (ltb-false c m e)
 
 -- ---- the encoding, by the value's range
 
@@ -38,6 +48,16 @@ encode-4 c l =
     let l1 : 0x80 ≤ c = omega arith in
     let l2 : 0x800 ≤ c = omega arith in
     rw (le-ltb c 0x80 l1, le-ltb c 0x800 l2, le-ltb c 0x10000 l)
+
+-- an encoding of four bytes is one of U+10000 or more
+pub from-four : (c : ℕ) → length (encode c) ≡ 4 → 0x10000 ≤ c
+from-four c e = go (below c 0x80) (below c 0x800) (below c 0x10000)
+  where
+    go : (c < 0x80) ⊎ (0x80 ≤ c) → (c < 0x800) ⊎ (0x800 ≤ c) → (c < 0x10000) ⊎ (0x10000 ≤ c) → 0x10000 ≤ c
+    go (inl x) y z = let l : length (encode c) ≡ 1 = ap length (encode-1 c x) in absurd (omega arith)
+    go (inr x) (inl y) z = let l : length (encode c) ≡ 2 = ap length (encode-2 c x y) in absurd (omega arith)
+    go (inr x) (inr y) (inl z) = let l : length (encode c) ≡ 3 = ap length (encode-3 c y z) in absurd (omega arith)
+    go (inr x) (inr y) (inr z) = z
 
 -- ---- a sequence that fits spells a scalar value of its width
 
@@ -186,23 +206,30 @@ all-sound = (
   ),
 )
 
--- so whatever is read by them is an encoding
-sound-at : (s : List Octets) (bs : List ℕ) (c w : ℕ) (other : Character) (t : Bool) → startsWith s bs ≡ t → Sound s → (other ≡ Char c w → Encodes bs c w)
-    → cond t (Char (characterNumber (take (length s) bs)) (length s)) other ≡ Char c w → Encodes bs c w
-sound-at s bs c w other true p ok next e =
+-- so whatever is read by them is an encoding, with the units of the number that it spells
+abbrev EncodesIn : List ℕ → ℕ → ℕ → ℕ → Type 0
+EncodesIn bs c w u = Encodes bs c w × (unitsOf c ≡ u)
+
+sound-at : (s : List Octets) (bs : List ℕ) (c w u : ℕ) (other : Character) (t : Bool) → startsWith s bs ≡ t → Sound s
+    → (other ≡ Char c w u → EncodesIn bs c w u)
+    → cond t (character (characterNumber (take (length s) bs)) (length s)) other ≡ Char c w u → EncodesIn bs c w u
+sound-at s bs c w u other true p ok next e =
     let ec : characterNumber (take (length s) bs) ≡ c = cc in
     let ew : length s ≡ w = cc in
-    rw (← ec, ← ew) (ok bs (rw p tt))
-sound-at s bs c w other false p ok next e = next e
+    let eu : unitsOf (characterNumber (take (length s) bs)) ≡ u = cc in
+    (rw (← ec, ← ew) (ok bs (rw p tt)), ap unitsOf (sym ec) ∙ eu)
+sound-at s bs c w u other false p ok next e = next e
 
-sound-by : (rows : List (List Octets)) → AllSound rows → (bs : List ℕ) (c w : ℕ) → readBy rows bs ≡ Char c w → Encodes bs c w
-sound-by [] ok bs c w e = let z : _≡_ {A = ℕ} 0 1 = cc in absurd (omega arith)
-sound-by (s ∷ rest) ok bs c w e = sound-at s bs c w (readBy rest bs) (startsWith s bs) refl (ok .0) (sound-by rest (ok .1) bs c w) e
+sound-by : (rows : List (List Octets)) → AllSound rows → (bs : List ℕ) (c w u : ℕ) → readBy rows bs ≡ Char c w u → EncodesIn bs c w u
+sound-by [] ok bs c w u e = let z : _≡_ {A = ℕ} 0 1 = cc in absurd (omega arith)
+sound-by (s ∷ rest) ok bs c w u e = sound-at s bs c w u (readBy rest bs) (startsWith s bs) refl (ok .0) (sound-by rest (ok .1) bs c w u) e
 
 pub reads-only-encodings : ReadsOnlyEncodings
 unfolding readFrom
-reads-only-encodings [] c w e = let z : _≡_ {A = ℕ} 0 1 = cc in absurd (omega arith)
-reads-only-encodings (b ∷ bs) c w e = sound-by sequences all-sound (b ∷ bs) c w e
+reads-only-encodings [] c w u e = let z : _≡_ {A = ℕ} 0 1 = cc in absurd (omega arith)
+reads-only-encodings (b ∷ bs) c w u e =
+    let read = sound-by sequences all-sound (b ∷ bs) c w u e in
+    (read .0 .0, read .0 .1, read .0 .2, sym (units-encoded c) ∙ read .1)
 
 -- ---- a scalar value's encoding is read
 
@@ -229,22 +256,22 @@ passed ((r ∷ rs) ∷ rows) rest m a bs h l =
     rw (no-lead r rs a bs (omega arith)) (passed rows rest m a bs (p .1) l)
 
 taken : (s : List Octets) (rest : List (List Octets)) (bs : List ℕ) → startsWith s bs ≡ true
-    → readBy (s ∷ rest) bs ≡ Char (characterNumber (take (length s) bs)) (length s)
+    → readBy (s ∷ rest) bs ≡ character (characterNumber (take (length s) bs)) (length s)
 taken s rest bs e = rw e
 
 -- the sequence r t, whose lead is above those of the sequences before it, reads three octets; and four
 read-3 : (pre rest : List (List Octets)) (r t : Octets) (a b c n : ℕ) (bs : List ℕ) → T (leadsBelow pre (r .first)) → number-3 a b c ≡ n
     → r .first ≤ a → a ≤ r .last → t .first ≤ b → b ≤ t .last → 0x80 ≤ c → c ≤ 0xBF
-    → readBy (pre ++ (r ∷ t ∷ tail ∷ []) ∷ rest) (a ∷ b ∷ c ∷ bs) ≡ Char n 3
+    → readBy (pre ++ (r ∷ t ∷ tail ∷ []) ∷ rest) (a ∷ b ∷ c ∷ bs) ≡ character n 3
 read-3 pre rest r t a b c n bs before e a0 a1 b0 b1 c0 c1 =
     passed pre ((r ∷ t ∷ tail ∷ []) ∷ rest) (r .first) a (b ∷ c ∷ bs) before a0
     ∙ taken (r ∷ t ∷ tail ∷ []) rest (a ∷ b ∷ c ∷ bs)
     (rw (le-leb (r .first) a a0, le-leb a (r .last) a1, le-leb (t .first) b b0, le-leb b (t .last) b1, le-leb 0x80 c c0, le-leb c 0xBF c1))
-    ∙ ap (λ (m : ℕ). Char m 3) e
+    ∙ ap (λ (m : ℕ). character m 3) e
 
 read-4 : (pre rest : List (List Octets)) (r t : Octets) (a b c d n : ℕ) (bs : List ℕ) → T (leadsBelow pre (r .first)) → number-4 a b c d ≡ n
     → r .first ≤ a → a ≤ r .last → t .first ≤ b → b ≤ t .last → 0x80 ≤ c → c ≤ 0xBF → 0x80 ≤ d → d ≤ 0xBF
-    → readBy (pre ++ (r ∷ t ∷ tail ∷ tail ∷ []) ∷ rest) (a ∷ b ∷ c ∷ d ∷ bs) ≡ Char n 4
+    → readBy (pre ++ (r ∷ t ∷ tail ∷ tail ∷ []) ∷ rest) (a ∷ b ∷ c ∷ d ∷ bs) ≡ character n 4
 read-4 pre rest r t a b c d n bs before e a0 a1 b0 b1 c0 c1 d0 d1 =
     passed pre ((r ∷ t ∷ tail ∷ tail ∷ []) ∷ rest) (r .first) a (b ∷ c ∷ d ∷ bs) before a0
     ∙ taken (r ∷ t ∷ tail ∷ tail ∷ []) rest (a ∷ b ∷ c ∷ d ∷ bs)
@@ -258,19 +285,11 @@ read-4 pre rest r t a b c d n bs before e a0 a1 b0 b1 c0 c1 d0 d1 =
       le-leb 0x80 d d0,
       le-leb d 0xBF d1,
     ))
-    ∙ ap (λ (m : ℕ). Char m 4) e
-
--- a number is below m or not
-pub below : (c m : ℕ) → (c < m) ⊎ (m ≤ c)
-below c m = go (ltb c m) refl
-  where
-    go : (t : Bool) → ltb c m ≡ t → (c < m) ⊎ (m ≤ c)
-    go true e = inl (ltb-true c m e)
-    go false e = inr (ltb-false c m e)
+    ∙ ap (λ (m : ℕ). character m 4) e
 
 -- by which sequence a value from U+0800 to U+FFFF is read
 reads-3 : (n a b c : ℕ) (bs : List ℕ) → 0x800 ≤ n → n < 0x10000 → a ≡ 0xE0 + n / 0x1000 → b ≡ 0x80 + n / 0x40 % 0x40 → c ≡ 0x80 + n % 0x40
-    → (n < 0x1000) ⊎ (0x1000 ≤ n) → (n < 0xD000) ⊎ (0xD000 ≤ n) → Scalar n → readBy sequences (a ∷ b ∷ c ∷ bs) ≡ Char n 3
+    → (n < 0x1000) ⊎ (0x1000 ≤ n) → (n < 0xD000) ⊎ (0xD000 ≤ n) → Scalar n → readBy sequences (a ∷ b ∷ c ∷ bs) ≡ character n 3
 reads-3 n a b c bs l h ea eb ec (inl x) y z =
     read-3 (take 2 sequences) (drop 3 sequences) (octets 0xE0 0xE0) (octets 0xA0 0xBF) a b c n bs tt
     (omega arith) (omega arith) (omega arith) (omega arith) (omega arith) (omega arith) (omega arith)
@@ -311,7 +330,7 @@ value-4 n a b c d h ea eb ec ed =
 -- and one from U+10000 to U+10FFFF
 reads-4 : (n a b c d : ℕ) (bs : List ℕ) → 0x10000 ≤ n → n ≤ 0x10FFFF → a ≡ 0xF0 + n / 0x40000 → b ≡ 0x80 + n / 0x1000 % 0x40
     → c ≡ 0x80 + n / 0x40 % 0x40 → d ≡ 0x80 + n % 0x40
-    → (n < 0x40000) ⊎ (0x40000 ≤ n) → (n < 0x100000) ⊎ (0x100000 ≤ n) → readBy sequences (a ∷ b ∷ c ∷ d ∷ bs) ≡ Char n 4
+    → (n < 0x40000) ⊎ (0x40000 ≤ n) → (n < 0x100000) ⊎ (0x100000 ≤ n) → readBy sequences (a ∷ b ∷ c ∷ d ∷ bs) ≡ character n 4
 reads-4 n a b c d bs l h ea eb ec ed (inl x) y =
     read-4 (take 6 sequences) (drop 7 sequences) (octets 0xF0 0xF0) (octets 0x90 0xBF) a b c d n bs tt
     (value-4 n a b c d h ea eb ec ed) (omega arith) (omega arith) (omega arith) (omega arith) (omega arith) (omega arith) (omega arith) (omega arith)
@@ -322,21 +341,21 @@ reads-4 n a b c d bs l h ea eb ec ed (inr x) (inr y) =
     read-4 (take 8 sequences) (drop 9 sequences) (octets 0xF4 0xF4) (octets 0x80 0x8F) a b c d n bs tt
     (value-4 n a b c d h ea eb ec ed) (omega arith) (omega arith) (omega arith) (omega arith) (omega arith) (omega arith) (omega arith) (omega arith)
 
-pub reads-1 : (n : ℕ) (bs : List ℕ) → n < 0x80 → readBy sequences (n ∷ bs) ≡ Char n 1
+pub reads-1 : (n : ℕ) (bs : List ℕ) → n < 0x80 → readBy sequences (n ∷ bs) ≡ character n 1
 reads-1 n bs h = taken (octets 0x00 0x7F ∷ []) (drop 1 sequences) (n ∷ bs) (rw (le-leb 0x00 n (omega arith), le-leb n 0x7F (omega arith)))
 
-reads-2 : (n a b : ℕ) (bs : List ℕ) → 0x80 ≤ n → n < 0x800 → a ≡ 0xC0 + n / 0x40 → b ≡ 0x80 + n % 0x40 → readBy sequences (a ∷ b ∷ bs) ≡ Char n 2
+reads-2 : (n a b : ℕ) (bs : List ℕ) → 0x80 ≤ n → n < 0x800 → a ≡ 0xC0 + n / 0x40 → b ≡ 0x80 + n % 0x40 → readBy sequences (a ∷ b ∷ bs) ≡ character n 2
 reads-2 n a b bs l h ea eb =
     let a0 : 0xC2 ≤ a = omega arith in
     let v : a % 0x20 * 0x40 + b % 0x40 ≡ n = omega arith in
     passed (take 1 sequences) (drop 1 sequences) 0xC2 a (b ∷ bs) tt a0
     ∙ taken (octets 0xC2 0xDF ∷ tail ∷ []) (drop 2 sequences) (a ∷ b ∷ bs)
     (rw (le-leb 0xC2 a a0, le-leb a 0xDF (omega arith), le-leb 0x80 b (omega arith), le-leb b 0xBF (omega arith)))
-    ∙ ap (λ (m : ℕ). Char m 2) v
+    ∙ ap (λ (m : ℕ). character m 2) v
 
 -- the encoding's bytes, and reading them, by the value's range
 encoded : (c : ℕ) (rest : List ℕ) → Scalar c → (c < 0x80) ⊎ (0x80 ≤ c) → (c < 0x800) ⊎ (0x800 ≤ c) → (c < 0x10000) ⊎ (0x10000 ≤ c)
-    → readFrom (encode c ++ rest) ≡ Char c (length (encode c))
+    → readFrom (encode c ++ rest) ≡ character c (length (encode c))
 unfolding readFrom
 encoded c rest s (inl x) y z = rw (encode-1 c x) (reads-1 c rest x)
 encoded c rest s (inr x) (inl y) z = rw (encode-2 c x y) (reads-2 c _ _ rest x y refl refl)
@@ -345,4 +364,4 @@ encoded c rest (inl s) (inr x) (inr y) (inr z) = absurd (omega arith)
 encoded c rest (inr s) (inr x) (inr y) (inr z) = rw (encode-4 c z) (reads-4 c _ _ _ _ rest z (s .1) refl refl refl refl (below c 0x40000) (below c 0x100000))
 
 pub reads-encodings : ReadsEncodings
-reads-encodings c rest s = encoded c rest s (below c 0x80) (below c 0x800) (below c 0x10000)
+reads-encodings c rest s = encoded c rest s (below c 0x80) (below c 0x800) (below c 0x10000) ∙ ap (Char c (length (encode c))) (units-encoded c)

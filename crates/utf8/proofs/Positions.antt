@@ -16,13 +16,23 @@ use Rattle.utf8.specs.declared.CharCount.the-variants.{Chars}
 use Rattle.utf8.specs.Characters.{readFrom, characterAt}
 use Rattle.utf8.specs.Text.{before, charsOf, charsFrom, countOf}
 use Rattle.utf8.specs.Encoding.{Scalars, encode, encodeText, byteLength}
-use Rattle.utf8.proofs.Encodings.{reads-only-encodings}
-use Rattle.utf8.proofs.Texts.{width, chars-char, chars-malformed, chars-end, end-nil, texts-of-encodings, texts-only-of-encodings}
+use Rattle.utf8.specs.Utf16.{unitsOf, unitLength}
+use Rattle.utf8.proofs.Utf16.{one-unit, two-units, units-encoded}
+use Rattle.utf8.proofs.Encodings.{below, encode-4, reads-only-encodings}
+use Rattle.utf8.proofs.Texts.{encode-short, width, chars-char, chars-malformed, chars-end, end-nil, texts-of-encodings, texts-only-of-encodings}
+
+-- a character has no more units than bytes
+no-more-units-of : (c : ℕ) → unitsOf c ≤ length (encode c)
+no-more-units-of c =
+    ⊎-elim
+    (λ low. let is-one : unitsOf c ≡ 1 = one-unit c low in omega (arith, encode-short c))
+    (λ high. let is-two : unitsOf c ≡ 2 = two-units c high in let four : length (encode c) ≡ 4 = ap length (encode-4 c high) in omega arith)
+    (below c 0x10000)
 
 module _ (s : List ℕ) (at : ℕ) where
-  pub from-char : (c w : ℕ) → characterAt s at ≡ Char c w → charsFrom s at ≡ before c (charsFrom s (at + w))
+  pub from-char : (c w u : ℕ) → characterAt s at ≡ Char c w u → charsFrom s at ≡ before c (charsFrom s (at + w))
   unfolding characterAt charsFrom
-  from-char c w e = chars-char (drop at s) c w e ∙ ap (λ (x : List ℕ). before c (charsOf x)) (drop-drop w at s)
+  from-char c w u e = chars-char (drop at s) c w u e ∙ ap (λ (x : List ℕ). before c (charsOf x)) (drop-drop w at s)
 
   pub from-malformed : characterAt s at ≡ Malformed → charsFrom s at ≡ none
   unfolding characterAt charsFrom
@@ -33,22 +43,31 @@ module _ (s : List ℕ) (at : ℕ) where
   from-end h = rw (drop-of-length-le s h) (chars-end [] refl)
 
   -- a character has one to four bytes, within the text
-  pub inside : (c w : ℕ) → characterAt s at ≡ Char c w → (1 ≤ w) × (w ≤ 4) × (at + w ≤ length s)
+  pub inside : (c w u : ℕ) → characterAt s at ≡ Char c w u → (1 ≤ w) × (w ≤ 4) × (at + w ≤ length s)
   unfolding characterAt
-  inside c w e =
-      let p = width (drop at s) c w e in
+  inside c w u e =
+      let p = width (drop at s) c w u e in
       let l : length (drop at s) ≡ length s - at = length-drop at s in
       (p .0 .0, p .0 .1, omega arith)
 
   -- as many as its encoding
-  pub width-of : (c w : ℕ) → characterAt s at ≡ Char c w → length (encode c) ≡ w
+  pub width-of : (c w u : ℕ) → characterAt s at ≡ Char c w u → length (encode c) ≡ w
   unfolding characterAt
-  width-of c w e = reads-only-encodings (drop at s) c w e .1
+  width-of c w u e = reads-only-encodings (drop at s) c w u e .1
+
+  -- and as many units as its encoding in UTF-16
+  pub units-of : (c w u : ℕ) → characterAt s at ≡ Char c w u → unitsOf c ≡ u
+  unfolding characterAt
+  units-of c w u e = units-encoded c ∙ reads-only-encodings (drop at s) c w u e .3
+
+  -- which are no more than its bytes
+  pub units-within : (c w u : ℕ) → characterAt s at ≡ Char c w u → u ≤ w
+  units-within c w u e = omega (arith, no-more-units-of c, units-of c w u e, width-of c w u e)
 
   -- a scalar value has 21 bits
-  pub value-below : (c w : ℕ) → characterAt s at ≡ Char c w → c < 2 ^ 21
+  pub value-below : (c w u : ℕ) → characterAt s at ≡ Char c w u → c < 2 ^ 21
   unfolding characterAt
-  value-below c w e = ⊎-elim (λ low. omega arith) (λ high. omega arith) (reads-only-encodings (drop at s) c w e .0)
+  value-below c w u e = ⊎-elim (λ low. omega arith) (λ high. omega arith) (reads-only-encodings (drop at s) c w u e .0)
 
   -- the end is not met within the text
   pub not-within : characterAt s at ≡ End → length s ≤ at
@@ -59,8 +78,8 @@ module _ (s : List ℕ) (at : ℕ) where
       omega arith
 
   -- where the text is well formed from here on, it is after the character that is read here
-  pub still-chars : IsSome (charsFrom s at) → (c w : ℕ) → characterAt s at ≡ Char c w → IsSome (charsFrom s (at + w))
-  still-chars some-chars c w e = later (charsFrom s (at + w)) (rw (from-char c w e) at some-chars)
+  pub still-chars : IsSome (charsFrom s at) → (c w u : ℕ) → characterAt s at ≡ Char c w u → IsSome (charsFrom s (at + w))
+  still-chars some-chars c w u e = later (charsFrom s (at + w)) (rw (from-char c w u e) at some-chars)
     where
       later : (rest : Option (List ℕ)) → IsSome (before c rest) → IsSome rest
       later none some-there = absurd some-there
@@ -87,6 +106,12 @@ byte-length-cons c cs = length-append (encode c) (encodeText cs)
 pub byte-length-append : (xs ys : List ℕ) → byteLength (xs ++ ys) ≡ byteLength xs + byteLength ys
 unfolding byteLength
 byte-length-append xs ys = ap length (append-text xs ys) ∙ length-append (encodeText xs) (encodeText ys)
+
+-- several characters have no more units than bytes
+pub no-more-units : (cs : List ℕ) → unitLength cs ≤ byteLength cs
+unfolding unitLength byteLength
+no-more-units [] = omega arith
+no-more-units (c ∷ cs) = omega (arith, no-more-units-of c, no-more-units cs, byte-length-cons c cs)
 
 -- the characters after a first part stand after its bytes, and the first part's are in those bytes
 module _ (s : List ℕ) (at : ℕ) (xs ys : List ℕ) (e : charsFrom s at ≡ some (xs ++ ys)) where
@@ -142,8 +167,8 @@ count-more n c none = refl
 count-more n c (some cs) = ap Chars (omega arith)
 
 module _ (s : List ℕ) (at n : ℕ) (r : CharCount) (same : countOn n (charsFrom s at) ≡ r) where
-  pub count-char : (c w : ℕ) → characterAt s at ≡ Char c w → countOn (n + 1) (charsFrom s (at + w)) ≡ r
-  count-char c w e = count-more n c (charsFrom s (at + w)) ∙ ap (countOn n) (sym (from-char s at c w e)) ∙ same
+  pub count-char : (c w u : ℕ) → characterAt s at ≡ Char c w u → countOn (n + 1) (charsFrom s (at + w)) ≡ r
+  count-char c w u e = count-more n c (charsFrom s (at + w)) ∙ ap (countOn n) (sym (from-char s at c w u e)) ∙ same
 
   pub count-malformed : characterAt s at ≡ Malformed → CharCount.Malformed ≡ r
   count-malformed e = ap (countOn n) (sym (from-malformed s at e)) ∙ same

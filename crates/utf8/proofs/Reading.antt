@@ -15,9 +15,11 @@ use lib.ListN.{length, getD, take, drop, List·getD-eq-default}
 use lib.Seq.{drop-cons, getD-drop}
 use Rattle.utf8.specs.declared.Character.{Character}
 use Rattle.utf8.specs.declared.Character.the-variants.{Char, Malformed}
-use Rattle.utf8.specs.Characters.{Octets, octets, tail, sequences, startsWith, characterNumber, readBy, readFrom, characterAt}
+use Rattle.utf8.specs.Characters.{Octets, octets, tail, sequences, startsWith, characterNumber, character, readBy, readFrom, characterAt}
+use Rattle.utf8.specs.Utf16.{unitsOf}
 use Rattle.utf8.specs.Rows.{inside, anyRow, ofLength, beginsRow, tailOf}
-use Rattle.utf8.proofs.Encodings.{below, both, octet, leadsBelow, passed, reads-1}
+use Rattle.utf8.proofs.Utf16.{one-unit, two-units}
+use Rattle.utf8.proofs.Encodings.{below, from-four, both, octet, leadsBelow, passed, reads-1, reads-only-encodings}
 use Rattle.utf8.proofs.Bytes.{Spells}
 use Rattle.utf8.proofs.Rows.{leadsFrom, none-above, none-read}
 
@@ -59,23 +61,23 @@ module _ (tails : List Octets) where
   either false y c other = refl
 
   by-any : (ps : List (Octets × Octets)) (post : List (List Octets)) (bs : List ℕ)
-      → readBy (map row ps ++ post) bs ≡ cond (anyRow (map row ps) bs) (Char (characterNumber (take width bs)) width) (readBy post bs)
+      → readBy (map row ps ++ post) bs ≡ cond (anyRow (map row ps) bs) (character (characterNumber (take width bs)) width) (readBy post bs)
   by-any [] post bs = refl
   by-any (p ∷ ps) post bs =
       rw (by-any ps post bs)
-      (either (startsWith (row p) bs) (anyRow (map row ps) bs) (Char (characterNumber (take width bs)) width) (readBy post bs))
+      (either (startsWith (row p) bs) (anyRow (map row ps) bs) (character (characterNumber (take width bs)) width) (readBy post bs))
 
   -- ---- a lead byte of this length
 
   module _ (pre post : List (List Octets)) (ps : List (Octets × Octets)) (low high : ℕ) (table : sequences ≡ pre ++ (map row ps ++ post))
       (below : T (leadsBelow pre low)) (above : T (leadsFrom post high)) (b0 : ℕ) (l : low ≤ b0) (h : b0 < high) where
-    by-length : (bs : List ℕ) → readFrom (b0 ∷ bs) ≡ cond (anyRow (map row ps) (b0 ∷ bs)) (Char (characterNumber (take width (b0 ∷ bs))) width) Malformed
+    by-length : (bs : List ℕ) → readFrom (b0 ∷ bs) ≡ cond (anyRow (map row ps) (b0 ∷ bs)) (character (characterNumber (take width (b0 ∷ bs))) width) Malformed
     unfolding readFrom
     by-length bs =
         ap (λ (rows : List (List Octets)). readBy rows (b0 ∷ bs)) table
         ∙ passed pre (map row ps ++ post) low b0 bs below l
         ∙ by-any ps post (b0 ∷ bs)
-        ∙ ap (λ (c : Character). cond (anyRow (map row ps) (b0 ∷ bs)) (Char (characterNumber (take width (b0 ∷ bs))) width) c)
+        ∙ ap (λ (c : Character). cond (anyRow (map row ps) (b0 ∷ bs)) (character (characterNumber (take width (b0 ∷ bs))) width) c)
         (none-read post (b0 ∷ bs) (none-above post high b0 bs above h))
 
     no-row : (bs : List ℕ) → anyRow (map row ps) (b0 ∷ bs) ≡ false → Malformed ≡ readFrom (b0 ∷ bs)
@@ -92,7 +94,7 @@ module _ (tails : List Octets) where
     no-tails (b1 ∷ bs) none = no-row (b1 ∷ bs) (by-two ps b0 b1 bs ∙ rw none (and-false (anyRow (map two ps) (b0 ∷ b1 ∷ []))))
 
     pub whole-row : (b1 : ℕ) (bs : List ℕ) → anyRow (map two ps) (b0 ∷ b1 ∷ []) ≡ true → startsWith tails bs ≡ true
-        → Char (characterNumber (take width (b0 ∷ b1 ∷ bs))) width ≡ readFrom (b0 ∷ b1 ∷ bs)
+        → character (characterNumber (take width (b0 ∷ b1 ∷ bs))) width ≡ readFrom (b0 ∷ b1 ∷ bs)
     whole-row b1 bs begins ends =
         let fits : anyRow (map row ps) (b0 ∷ b1 ∷ bs) ≡ true = by-two ps b0 b1 bs ∙ rw (begins, ends) in
         sym (by-length (b1 ∷ bs) ∙ rw fits)
@@ -232,9 +234,9 @@ module _ (s : List ℕ) (at b0 : ℕ) (e0 : b0 ≡ getD s at 0) (h : at < length
   unfolding characterAt
   at-position c e = e ∙ ap readFrom (sym from-1)
 
-  pub at-1 : b0 < 0x80 → Char b0 1 ≡ characterAt s at
+  pub at-1 : b0 < 0x80 → Char b0 1 1 ≡ characterAt s at
   unfolding readFrom
-  at-1 l = at-position (Char b0 1) (sym (reads-1 b0 later l))
+  at-1 l = at-position (Char b0 1 1) (ap (Char b0 1) (sym (one-unit b0 (omega arith))) ∙ sym (reads-1 b0 later l))
 
   module _ (b1 : ℕ) (e1 : b1 ≡ getD s (at + 1) 0) where
     second : getD later 0 0 ≡ b1
@@ -258,14 +260,15 @@ module _ (s : List ℕ) (at b0 : ℕ) (e0 : b0 ≡ getD s at 0) (h : at < length
           at-position Malformed
           (no-beginning [] (take 1 sequences) (drop 2 sequences) (pairsOf 2) 0x80 0xE0 refl tt tt b0 l u later (rw second none))
 
-      pub is-two : beginsRow 2 b0 b1 ≡ true → Spells s at (b0 * 0x40 + b1) 0x3080 2
+      pub is-two : beginsRow 2 b0 b1 ≡ true → Spells s at (b0 * 0x40 + b1) 0x3080 2 1
       unfolding characterAt
       is-two begins =
           let r = ranges (pairsOf 2) 0xC2 0xDF b0 b1 tt begins in
           let k : at + 1 < length s = in-text s (at + 1) (omega (arith, r .second-first)) in
           let v : b0 * 0x40 + b1 - 0x3080 ≡ b0 % 0x20 * 0x40 + b1 % 0x40 = omega (arith, r) in (
             omega (arith, r),
-            sym (ap (λ (c : ℕ). Char c 2) v
+            sym (ap (λ (c : ℕ). Char c 2 1) v
+                ∙ ap (Char (b0 % 0x20 * 0x40 + b1 % 0x40) 2) (sym (one-unit (b0 % 0x20 * 0x40 + b1 % 0x40) (omega arith)))
                 ∙ whole-row [] (take 1 sequences) (drop 2 sequences) (pairsOf 2) 0x80 0xE0 refl tt tt b0 l u b1 (drop (at + 2) s) begins refl
                 ∙ ap readFrom (sym (from-2 k))),
           )
@@ -283,7 +286,7 @@ module _ (s : List ℕ) (at b0 : ℕ) (e0 : b0 ≡ getD s at 0) (h : at < length
           (no-tails (tail ∷ []) (take 2 sequences) (drop 6 sequences) (pairsOf 3) 0xE0 0xF0 refl tt tt b0 l u later
           (first-missing [] (drop 1 later) (rw (after-second 0 (at + 2) (omega arith)) (no-tail (getD s (at + 2) 0) none))))
 
-      pub is-three : (b2 : ℕ) → b2 ≡ tailOf (getD s (at + 2) 0) → 1 ≤ b2 → beginsRow 3 b0 b1 ≡ true → Spells s at ((b0 * 0x40 + b1) * 0x40 + b2) 0xE2080 3
+      pub is-three : (b2 : ℕ) → b2 ≡ tailOf (getD s (at + 2) 0) → 1 ≤ b2 → beginsRow 3 b0 b1 ≡ true → Spells s at ((b0 * 0x40 + b1) * 0x40 + b2) 0xE2080 3 1
       unfolding characterAt
       is-three b2 e2 some-byte begins =
           let r = ranges (pairsOf 3) 0xE0 0xEF b0 b1 tt begins in
@@ -291,7 +294,9 @@ module _ (s : List ℕ) (at b0 : ℕ) (e0 : b0 ≡ getD s at 0) (h : at < length
           let x2 : b2 ≡ getD s (at + 2) 0 = e2 ∙ t .0 in
           let v : (b0 * 0x40 + b1) * 0x40 + b2 - 0xE2080 ≡ b0 % 0x10 * 0x1000 + b1 % 0x40 * 0x40 + b2 % 0x40 = omega (arith, r, t .1, t .2, x2) in (
             omega (arith, r, t .1, x2),
-            sym (ap (λ (c : ℕ). Char c 3) v
+            sym (ap (λ (c : ℕ). Char c 3 1) v
+                ∙ ap (Char (b0 % 0x10 * 0x1000 + b1 % 0x40 * 0x40 + b2 % 0x40) 3)
+                (sym (one-unit (b0 % 0x10 * 0x1000 + b1 % 0x40 * 0x40 + b2 % 0x40) (omega arith)))
                 ∙ whole-row (tail ∷ []) (take 2 sequences) (drop 6 sequences) (pairsOf 3) 0xE0 0xF0 refl tt tt b0 l u b1 (b2 ∷ drop (at + 3) s) begins
                 (rw (is-tail b2 (omega (arith, t .1, x2)) (omega (arith, t .2, x2))))
                 ∙ ap readFrom (sym (from-3 b2 x2 (in-text s (at + 2) (omega (arith, t .1)))))),
@@ -317,7 +322,7 @@ module _ (s : List ℕ) (at b0 : ℕ) (e0 : b0 ≡ getD s at 0) (h : at < length
           no-tails-of-four (second-missing [] (drop 1 later) (rw (after-second 1 (at + 3) (omega arith)) (no-tail (getD s (at + 3) 0) none)))
 
       pub is-four : (b2 b3 : ℕ) → b2 ≡ tailOf (getD s (at + 2) 0) → 1 ≤ b2 → b3 ≡ tailOf (getD s (at + 3) 0) → 1 ≤ b3 → beginsRow 4 b0 b1 ≡ true
-          → Spells s at (((b0 * 0x40 + b1) * 0x40 + b2) * 0x40 + b3) 0x3C82080 4
+          → Spells s at (((b0 * 0x40 + b1) * 0x40 + b2) * 0x40 + b3) 0x3C82080 4 2
       unfolding characterAt
       is-four b2 b3 e2 some-2 e3 some-3 begins =
           let r = ranges (pairsOf 4) 0xF0 0xF4 b0 b1 tt begins in
@@ -329,10 +334,11 @@ module _ (s : List ℕ) (at b0 : ℕ) (e0 : b0 ≡ getD s at 0) (h : at < length
           let m : b2 ≤ 0xBF = omega (arith, t .2, x2) in
           let p : 0x80 ≤ b3 = omega (arith, w .1, x3) in
           let q : b3 ≤ 0xBF = omega (arith, w .2, x3) in
-          let v = four-spelled b0 b1 b2 b3 l (r .lead-last) (r .second-first) (r .second-last) k m p q in (
-            v .0,
-            sym (ap (λ (c : ℕ). Char c 4) (v .1)
-                ∙ whole-row (tail ∷ tail ∷ []) (take 6 sequences) [] (pairsOf 4) 0xF0 0x100 refl tt tt b0 l u b1 (b2 ∷ b3 ∷ drop (at + 4) s) begins
-                (rw (is-tail b2 k m, is-tail b3 p q))
-                ∙ ap readFrom (sym (from-4 b2 x2 b3 x3 (in-text s (at + 3) (omega (arith, w .1)))))),
-          )
+          let v = four-spelled b0 b1 b2 b3 l (r .lead-last) (r .second-first) (r .second-last) k m p q in
+          let n : ℕ = b0 % 0x08 * 0x40000 + b1 % 0x40 * 0x1000 + b2 % 0x40 * 0x40 + b3 % 0x40 in
+          let read : characterAt s at ≡ character n 4 =
+          sym (whole-row (tail ∷ tail ∷ []) (take 6 sequences) [] (pairsOf 4) 0xF0 0x100 refl tt tt b0 l u b1 (b2 ∷ b3 ∷ drop (at + 4) s) begins
+          (rw (is-tail b2 k m, is-tail b3 p q))
+          ∙ ap readFrom (sym (from-4 b2 x2 b3 x3 (in-text s (at + 3) (omega (arith, w .1)))))) in
+          let two : unitsOf n ≡ 2 = two-units n (from-four n (reads-only-encodings (drop at s) n 4 (unitsOf n) read .1)) in
+          (v .0, read ∙ ap (Char n 4) two ∙ ap (λ (c : ℕ). Char c 4 2) (sym (v .1)))

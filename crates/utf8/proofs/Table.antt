@@ -10,7 +10,7 @@ use lib.Dec.{T, leb}
 use lib.ListN.{length, take}
 use Rattle.utf8.specs.declared.Character.{Character}
 use Rattle.utf8.specs.declared.Character.the-variants.{Char}
-use Rattle.utf8.specs.Characters.{Octets, sequences, startsWith, characterNumber, readBy, readFrom}
+use Rattle.utf8.specs.Characters.{Octets, sequences, startsWith, characterNumber, character, readBy, readFrom}
 use Rattle.utf8.specs.Rows.{anyRow}
 use Rattle.utf8.specs.Claims.{NineRows, isCharacter, ReadExactlyByRows, ByRow, ReadByItsRow, OneRowOnly}
 use Rattle.utf8.proofs.Encodings.{both, octet}
@@ -21,7 +21,7 @@ nine-rows = refl
 
 -- ---- a character is read exactly where some row fits
 
-either : (fits : Bool) (c w : ℕ) (other : Character) → isCharacter (cond fits (Char c w) other) ≡ (fits || isCharacter other)
+either : (fits : Bool) (c w : ℕ) (other : Character) → isCharacter (cond fits (character c w) other) ≡ (fits || isCharacter other)
 either true c w other = refl
 either false c w other = refl
 
@@ -41,12 +41,12 @@ read-exactly-by-rows (b ∷ bs) = by-rows sequences (b ∷ bs)
 abbrev Among : List (List Octets) → List ℕ → ℕ → ℕ → Type 0
 Among rows bs c w = (row : List Octets) × List·Memᴰ row rows × (startsWith row bs ≡ true) × (w ≡ length row) × (c ≡ characterNumber (take w bs))
 
-first-that-fits : (rows : List (List Octets)) (bs : List ℕ) (c w : ℕ) → readBy rows bs ≡ Char c w → Among rows bs c w
-first-that-fits [] bs c w e = let z : _≡_ {A = ℕ} 0 1 = cc in absurd (omega arith)
-first-that-fits (row ∷ rows) bs c w e = go (startsWith row bs) refl e (first-that-fits rows bs c w)
+first-that-fits : (rows : List (List Octets)) (bs : List ℕ) (c w u : ℕ) → readBy rows bs ≡ Char c w u → Among rows bs c w
+first-that-fits [] bs c w u e = let z : _≡_ {A = ℕ} 0 1 = cc in absurd (omega arith)
+first-that-fits (row ∷ rows) bs c w u e = go (startsWith row bs) refl e (first-that-fits rows bs c w u)
   where
-    go : (t : Bool) → startsWith row bs ≡ t → cond t (Char (characterNumber (take (length row) bs)) (length row)) (readBy rows bs) ≡ Char c w
-        → (readBy rows bs ≡ Char c w → Among rows bs c w) → Among (row ∷ rows) bs c w
+    go : (t : Bool) → startsWith row bs ≡ t → cond t (character (characterNumber (take (length row) bs)) (length row)) (readBy rows bs) ≡ Char c w u
+        → (readBy rows bs ≡ Char c w u → Among rows bs c w) → Among (row ∷ rows) bs c w
     go true fits is later =
         let v : characterNumber (take (length row) bs) ≡ c = cc in
         let n : length row ≡ w = cc in
@@ -55,9 +55,9 @@ first-that-fits (row ∷ rows) bs c w e = go (startsWith row bs) refl e (first-t
 
 pub read-by-its-row : ReadByItsRow
 unfolding readFrom
-read-by-its-row [] c w e = let z : _≡_ {A = ℕ} 0 1 = cc in absurd (omega arith)
-read-by-its-row (b ∷ bs) c w e =
-    let one = first-that-fits sequences (b ∷ bs) c w e in
+read-by-its-row [] c w u e = let z : _≡_ {A = ℕ} 0 1 = cc in absurd (omega arith)
+read-by-its-row (b ∷ bs) c w u e =
+    let one = first-that-fits sequences (b ∷ bs) c w u e in
     record { row = one .0; in-table = one .1; begins = one .2; width = one .3; value = one .4 }
 
 -- ---- and by no other

@@ -14,7 +14,7 @@ use lib.Seq.{drop-append-seam, drop-drop}
 use lib.Dec.{ltb}
 use Rattle.utf8.specs.declared.Character.{Character}
 use Rattle.utf8.specs.declared.Character.the-variants.{Char, Malformed, End}
-use Rattle.utf8.specs.Characters.{Octets, sequences, startsWith, characterNumber, readBy, readFrom}
+use Rattle.utf8.specs.Characters.{Octets, sequences, startsWith, characterNumber, character, readBy, readFrom}
 use Rattle.utf8.specs.Text.{before, charsWithin, charsOf}
 use Rattle.utf8.specs.Encoding.{Scalar, encode, Scalars, encodeText}
 use Rattle.utf8.specs.Claims.{TextsOfEncodings, TextsOnlyOfEncodings}
@@ -43,9 +43,9 @@ encode-lead c x = go (below c 0x800) (below c 0x10000)
     go (inr y) (inr z) = (_, _, encode-4 c z, omega arith)
 
 -- so a character that is read has one to four bytes, within the text
-pub width : (bs : List ℕ) (c w : ℕ) → readFrom bs ≡ Char c w → Short w × (w ≤ length bs)
-width bs c w e =
-    let r = reads-only-encodings bs c w e in
+pub width : (bs : List ℕ) (c w u : ℕ) → readFrom bs ≡ Char c w u → Short w × (w ≤ length bs)
+width bs c w u e =
+    let r = reads-only-encodings bs c w u e in
     let l : length (encode c) + length (drop w bs) ≡ length bs = sym (length-append (encode c) (drop w bs)) ∙ ap length (r .2) in
     let s = encode-short c in
     let q : length (encode c) ≡ w = r .1 in
@@ -54,9 +54,9 @@ width bs c w e =
 -- ---- one character of the count
 
 module _ (n : ℕ) (bs : List ℕ) where
-  within-char : (c w : ℕ) → readFrom bs ≡ Char c w → charsWithin (suc n) bs ≡ before c (charsWithin n (drop w bs))
+  within-char : (c w u : ℕ) → readFrom bs ≡ Char c w u → charsWithin (suc n) bs ≡ before c (charsWithin n (drop w bs))
   unfolding charsWithin
-  within-char c w e = rw (e, charsWithin)
+  within-char c w u e = rw (e, charsWithin)
 
   within-malformed : readFrom bs ≡ Malformed → charsWithin (suc n) bs ≡ none
   unfolding charsWithin
@@ -70,8 +70,8 @@ none-there : readFrom [] ≡ End
 unfolding readFrom
 none-there = refl
 
-not-char : {A : Type 0} (c w : ℕ) → readFrom [] ≡ Char c w → A
-not-char c w e = let z : _≡_ {A = ℕ} 0 1 = cc none-there in absurd (omega arith)
+not-char : {A : Type 0} (c w u : ℕ) → readFrom [] ≡ Char c w u → A
+not-char c w u e = let z : _≡_ {A = ℕ} 0 1 = cc none-there in absurd (omega arith)
 
 -- any two counts that are large enough give the same
 counted : (n m : ℕ) (bs : List ℕ) → length bs ≤ n → length bs ≤ m → charsWithin n bs ≡ charsWithin m bs
@@ -85,20 +85,20 @@ counted (suc n) (suc m) bs h k = go (readFrom bs) refl (λ w p q. counted n m (d
   where
     go : (r : Character) → readFrom bs ≡ r → ((w : ℕ) → length bs - w ≤ n → length bs - w ≤ m → charsWithin n (drop w bs) ≡ charsWithin m (drop w bs))
         → charsWithin (suc n) bs ≡ charsWithin (suc m) bs
-    go (Char c w) e rest =
-        let s = width bs c w e in
-        within-char n bs c w e ∙ ap (before c) (rest w (omega arith) (omega arith)) ∙ sym (within-char m bs c w e)
+    go (Char c w u) e rest =
+        let s = width bs c w u e in
+        within-char n bs c w u e ∙ ap (before c) (rest w (omega arith) (omega arith)) ∙ sym (within-char m bs c w u e)
     go Malformed e rest = within-malformed n bs e ∙ sym (within-malformed m bs e)
     go End e rest = within-end n bs e ∙ sym (within-end m bs e)
 
 -- ---- a text by what stands at its start
 
-pub chars-char : (bs : List ℕ) (c w : ℕ) → readFrom bs ≡ Char c w → charsOf bs ≡ before c (charsOf (drop w bs))
+pub chars-char : (bs : List ℕ) (c w u : ℕ) → readFrom bs ≡ Char c w u → charsOf bs ≡ before c (charsOf (drop w bs))
 unfolding charsOf
-chars-char [] c w e = not-char c w e
-chars-char (b ∷ bs) c w e =
-    let s = width (b ∷ bs) c w e in
-    within-char (length bs) (b ∷ bs) c w e
+chars-char [] c w u e = not-char c w u e
+chars-char (b ∷ bs) c w u e =
+    let s = width (b ∷ bs) c w u e in
+    within-char (length bs) (b ∷ bs) c w u e
     ∙ ap (before c) (counted (length bs) (length (drop w (b ∷ bs))) (drop w (b ∷ bs)) (rw (length-drop w (b ∷ bs)) (omega arith)) (omega arith))
 
 pub chars-malformed : (bs : List ℕ) → readFrom bs ≡ Malformed → charsOf bs ≡ none
@@ -116,7 +116,7 @@ chars-end (b ∷ bs) e = within-end (length bs) (b ∷ bs) e
 pub texts-of-encodings : TextsOfEncodings
 texts-of-encodings [] s = chars-end [] none-there
 texts-of-encodings (c ∷ cs) s =
-    chars-char (encode c ++ encodeText cs) c (length (encode c)) (reads-encodings c (encodeText cs) (s .0))
+    chars-char (encode c ++ encodeText cs) c (length (encode c)) _ (reads-encodings c (encodeText cs) (s .0))
     ∙ ap (before c) (ap charsOf (drop-append-seam (encode c) (encodeText cs)) ∙ texts-of-encodings cs (s .1))
 
 -- only nothing reads as the end
@@ -124,7 +124,7 @@ not-end : (rows : List (List Octets)) (bs : List ℕ) → readBy rows bs ≡ End
 not-end [] bs e = let z : _≡_ {A = ℕ} 0 1 = cc in omega arith
 not-end (s ∷ rest) bs e = go (characterNumber (take (length s) bs)) (length s) (readBy rest bs) (startsWith s bs) (not-end rest bs) e
   where
-    go : (c w : ℕ) (other : Character) (t : Bool) → (other ≡ End → ⊥) → cond t (Char c w) other ≡ End → ⊥
+    go : (c w : ℕ) (other : Character) (t : Bool) → (other ≡ End → ⊥) → cond t (character c w) other ≡ End → ⊥
     go c w other true h e = let z : _≡_ {A = ℕ} 0 1 = cc in omega arith
     go c w other false h e = h e
 
@@ -139,11 +139,11 @@ only-none bs cs p e =
     rw (← nil, end-nil bs p) (tt, refl)
 
 -- the first character is an encoding, and so are those of the rest
-only-first : (bs cs : List ℕ) (c w : ℕ) (rest : Option (List ℕ)) → readFrom bs ≡ Char c w → before c rest ≡ some cs
+only-first : (bs cs : List ℕ) (c w u : ℕ) (rest : Option (List ℕ)) → readFrom bs ≡ Char c w u → before c rest ≡ some cs
     → ((ds : List ℕ) → rest ≡ some ds → Scalars ds × (encodeText ds ≡ drop w bs)) → Scalars cs × (encodeText cs ≡ bs)
-only-first bs cs c w none e q ih = let z : _≡_ {A = ℕ} 0 1 = cc in absurd (omega arith)
-only-first bs cs c w (some ds) e q ih =
-    let r = reads-only-encodings bs c w e in
+only-first bs cs c w u none e q ih = let z : _≡_ {A = ℕ} 0 1 = cc in absurd (omega arith)
+only-first bs cs c w u (some ds) e q ih =
+    let r = reads-only-encodings bs c w u e in
     let t = ih ds refl in
     let cons : c ∷ ds ≡ cs = cc in
     rw (← cons) ((r .0, t .0), ap (λ (x : List ℕ). encode c ++ x) (t .1) ∙ r .2)
@@ -155,9 +155,9 @@ only-within (suc n) bs cs h e = go (readFrom bs) refl (λ w k ds q. only-within 
   where
     go : (r : Character) → readFrom bs ≡ r → ((w : ℕ) → length (drop w bs) ≤ n → (ds : List ℕ) → charsOf (drop w bs) ≡ some ds
         → Scalars ds × (encodeText ds ≡ drop w bs)) → Scalars cs × (encodeText cs ≡ bs)
-    go (Char c w) p rest =
-        let s = width bs c w p in
-        only-first bs cs c w (charsOf (drop w bs)) p (sym (chars-char bs c w p) ∙ e) (rest w (rw (length-drop w bs) (omega arith)))
+    go (Char c w u) p rest =
+        let s = width bs c w u p in
+        only-first bs cs c w u (charsOf (drop w bs)) p (sym (chars-char bs c w u p) ∙ e) (rest w (rw (length-drop w bs) (omega arith)))
     go Malformed p rest = let z : _≡_ {A = ℕ} 0 1 = cc (chars-malformed bs p) in absurd (omega arith)
     go End p rest = only-none bs cs p e
 

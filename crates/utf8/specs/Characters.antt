@@ -7,6 +7,7 @@ use lib.Dec.{leb}
 use lib.ListN.{length, take, drop}
 use Rattle.utf8.specs.declared.Character.{Character}
 use Rattle.utf8.specs.declared.Character.the-variants.{Char, Malformed, End}
+use Rattle.utf8.specs.Utf16.{unitsOf}
 
 -- a range of octets, as %xC2-DF
 pub record Octets : Type 0 where
@@ -51,10 +52,14 @@ characterNumber (a ∷ b ∷ []) = a % 0x20 * 0x40 + b % 0x40
 characterNumber (a ∷ b ∷ c ∷ []) = a % 0x10 * 0x1000 + b % 0x40 * 0x40 + c % 0x40
 characterNumber (a ∷ b ∷ c ∷ d ∷ rest) = a % 0x08 * 0x40000 + b % 0x40 * 0x1000 + c % 0x40 * 0x40 + d % 0x40
 
+-- a character by its number and by how many bytes it takes, with the code units that it takes in UTF-16
+abbrev pub character : ℕ → ℕ → Character
+character c w = Char c w (unitsOf c)
+
 -- the character of the first of these sequences with which the bytes begin
 abbrev pub readBy : List (List Octets) → List ℕ → Character
 readBy [] bs = Malformed
-readBy (s ∷ rest) bs = cond (startsWith s bs) (Char (characterNumber (take (length s) bs)) (length s)) (readBy rest bs)
+readBy (s ∷ rest) bs = cond (startsWith s bs) (character (characterNumber (take (length s) bs)) (length s)) (readBy rest bs)
 
 -- the character with which the bytes begin
 unfoldable pub readFrom : List ℕ → Character

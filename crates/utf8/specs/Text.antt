@@ -18,7 +18,7 @@ before c (some cs) = some (c ∷ cs)
 -- the characters of a text of at most n bytes; none where it is malformed anywhere
 unfoldable pub charsWithin : ℕ → List ℕ → Option (List ℕ)
 charsWithin zero bs = some []
-charsWithin (suc n) bs = elim (readFrom bs) [ Char c w ↦ before c (charsWithin n (drop w bs)) | Malformed ↦ none | End ↦ some [] ]
+charsWithin (suc n) bs = elim (readFrom bs) [ Char c w u ↦ before c (charsWithin n (drop w bs)) | Malformed ↦ none | End ↦ some [] ]
 
 -- the characters of a text, as scalar values; none where it is malformed
 unfoldable pub charsOf : List ℕ → Option (List ℕ)

@@ -3,7 +3,7 @@
 //! The Rust gets its texts as `&str`, already checked. The bridge gets bytes, so the check stands here. It goes by the nine rows
 //! of RFC 3629's syntax, the Unicode Standard's table 3-7: each row is a line of the code, and overlong forms, surrogates and
 //! numbers above U+10FFFF are in none of them. After the check a text's characters are read without tests, as the Rust reads a
-//! `&str`.
+//! `&str`. With each character goes how many code units it takes in UTF-16, in which a browser counts.
 ghost use mathlib.Core.Path.{_≡_};
 ghost use mathlib.Core.Option.{IsSome};
 ghost use Prim.Native.Nat.{_<_};
@@ -23,18 +23,19 @@ const FOUR_MARKS: u32 = 0x3C8_2080;
 
 // What stands at a position of a text.
 pub enum Character {
-    // A character: its scalar value, and how many bytes it takes.
-    Char(u32, usize),
+    // A character: its scalar value, how many bytes it takes, and how many code units in UTF-16.
+    Char(u32, usize, usize),
     // Bytes that begin no character.
     Malformed,
     // The text's end, or beyond.
     End,
 }
 
-// A character's scalar value, and how many bytes it takes.
+// A character's scalar value, how many bytes it takes, and how many code units in UTF-16.
 pub struct NextChar {
     pub value: u32,
     pub width: usize,
+    pub units: usize,
 }
 
 // How many characters a text has.
@@ -115,6 +116,7 @@ fn begins_four(b0: u8, b1: u8) -> bool
 
 // The character at a position of a text, by the table's rows: the lead byte says how many bytes there are, the lead byte and the
 // second byte are decided by the rows of that length, and the others are tails. What they spell is put together and not tested.
+// Four bytes spell U+10000 or more, and fewer spell less: so the length says the units of UTF-16 too.
 // A byte is tested before it is made wide: of a byte, a range that begins with 0x80 is one comparison.
 pub fn read_char(s: &[u8], at: usize) -> Character
     ensures { λ r. ⌜ r ≡ characterAt (now (s .entry)) at ⌝ }
@@ -124,7 +126,7 @@ pub fn read_char(s: &[u8], at: usize) -> Character
     }
     let b0 = s[at];
     if b0 < 0x80 {
-        return Character::Char(wide(b0), 1);
+        return Character::Char(wide(b0), 1, 1);
     }
     let b1 = byte_at(s, at + 1);
     let c1 = wide(b0) * 0x40 + wide(b1);
@@ -132,7 +134,7 @@ pub fn read_char(s: &[u8], at: usize) -> Character
         if !begins_two(b0, b1) {
             return Character::Malformed;
         }
-        return Character::Char(c1 - TWO_MARKS, 2);
+        return Character::Char(c1 - TWO_MARKS, 2, 1);
     }
     if b0 < 0xF0 {
         if !begins_three(b0, b1) {
@@ -142,7 +144,7 @@ pub fn read_char(s: &[u8], at: usize) -> Character
         if b2 == 0 {
             return Character::Malformed;
         }
-        return Character::Char(c1 * 0x40 + b2 - THREE_MARKS, 3);
+        return Character::Char(c1 * 0x40 + b2 - THREE_MARKS, 3, 1);
     }
     if !begins_four(b0, b1) {
         return Character::Malformed;
@@ -155,20 +157,21 @@ pub fn read_char(s: &[u8], at: usize) -> Character
     if b3 == 0 {
         return Character::Malformed;
     }
-    Character::Char((c1 * 0x40 + b2) * 0x40 + b3 - FOUR_MARKS, 4)
+    Character::Char((c1 * 0x40 + b2) * 0x40 + b3 - FOUR_MARKS, 4, 2)
 }
 
 // The character at a position of a text that is known to be well formed, where nothing malformed is met, and no end: the
 // bytes are as many as the first one says, and none of them is tested.
 pub fn next_char(s: &[u8], at: usize) -> NextChar
     requires { ⌜ (at < length (now s)) × IsSome (charsFrom (now s) at) ⌝ }
-    ensures { λ r. ⌜ characterAt (now (s .entry)) at ≡ Char (r .value) (r .width) ⌝ }
+    ensures { λ r. ⌜ characterAt (now (s .entry)) at ≡ Char (r .value) (r .width) (r .units) ⌝ }
 {
     let b0 = wide(s[at]);
     if b0 < 0x80 {
         return NextChar {
             value: b0,
             width: 1,
+            units: 1,
         };
     }
     let c1 = b0 * 0x40 + wide(s[at + 1]);
@@ -176,6 +179,7 @@ pub fn next_char(s: &[u8], at: usize) -> NextChar
         return NextChar {
             value: c1 - TWO_MARKS,
             width: 2,
+            units: 1,
         };
     }
     let c2 = c1 * 0x40 + wide(s[at + 2]);
@@ -183,12 +187,14 @@ pub fn next_char(s: &[u8], at: usize) -> NextChar
         return NextChar {
             value: c2 - THREE_MARKS,
             width: 3,
+            units: 1,
         };
     }
     let c3 = c2 * 0x40 + wide(s[at + 3]);
     NextChar {
         value: c3 - FOUR_MARKS,
         width: 4,
+        units: 2,
     }
 }
 
@@ -202,7 +208,7 @@ pub fn char_count(s: &[u8]) -> CharCount
     let mut n: usize = 0;
     while at < s.len() {
         match read_char(s, at) {
-            Character::Char(_, w) => {
+            Character::Char(_, w, _) => {
                 at += w;
                 n += 1;
             }

@@ -27,5 +27,5 @@ module _ (s : List ℕ) (at : ℕ) where
     begins ch none some-rest = absurd some-rest
     begins ch (some cs) some-rest = refl
 
-    pub begins-with : (ch w : ℕ) → characterAt s at ≡ Char ch w → BeginsWith ch (charsOf (take (length s - at) (drop at s)))
-    begins-with ch w read = rw (part-chars, from-char s at ch w read) (begins ch (charsFrom s (at + w)) (still-chars s at some-chars ch w read))
+    pub begins-with : (ch w u : ℕ) → characterAt s at ≡ Char ch w u → BeginsWith ch (charsOf (take (length s - at) (drop at s)))
+    begins-with ch w u read = rw (part-chars, from-char s at ch w u read) (begins ch (charsFrom s (at + w)) (still-chars s at some-chars ch w u read))

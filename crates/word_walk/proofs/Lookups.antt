@@ -58,20 +58,20 @@ module _ (rootChildren keys children : List ℕ) (p : ParentRef) (s : List ℕ) 
   unfolding walkFrom walk
   walk-end h rootWords words = rw (from-end s at h) at (same rootWords words)
 
-  module _ (ch w : ℕ) (read : characterAt s at ≡ Char ch w) (r : Step)
+  module _ (ch w u : ℕ) (read : characterAt s at ≡ Char ch w u) (r : Step)
       (step : (rootWords words : List ℤ) → r ≡ testedStep (trieOf rootChildren rootWords keys children words) p ch) where
     pub walk-next : (q : ParentRef) → r ≡ At q → SameWalk rootChildren keys children q (charsFrom s (at + w)) whole
     walk-next q e rootWords words = walk-char _ p ch q (charsFrom s (at + w)) (sym (step rootWords words) ∙ e)
-        ∙ rw (from-char s at ch w read) at (same rootWords words)
+        ∙ rw (from-char s at ch w u read) at (same rootWords words)
 
     pub walk-nothing : r ≡ Nothing → Leads Nothing
     walk-nothing e rootWords words = walk-stops _ p ch (charsFrom s (at + w)) (sym (step rootWords words) ∙ e)
-        ∙ rw (from-char s at ch w read) at (same rootWords words)
+        ∙ rw (from-char s at ch w u read) at (same rootWords words)
 
     pub walk-damaged : IsSome (charsFrom s at) → r ≡ Damaged → Leads Damaged
     walk-damaged some-chars e rootWords words =
-        walk-breaks _ p ch (charsFrom s (at + w)) (still-chars s at some-chars ch w read) (sym (step rootWords words) ∙ e)
-        ∙ rw (from-char s at ch w read) at (same rootWords words)
+        walk-breaks _ p ch (charsFrom s (at + w)) (still-chars s at some-chars ch w u read) (sym (step rootWords words) ∙ e)
+        ∙ rw (from-char s at ch w u read) at (same rootWords words)
 
 -- ---- what a lookup finds, by where its steps lead and by the word number there
 

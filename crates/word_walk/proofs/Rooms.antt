@@ -51,10 +51,10 @@ module _ (used : ℕ) (rootChildren : List ℕ) (rootWords : List ℤ) (keys chi
     unfolding roomFrom roomAt reach
     room-whole number read h = ap Whole (read rootChildren keys children) ∙ rw (from-end s at h) at same
 
-    module _ (ch w : ℕ) (read : characterAt s at ≡ Char ch w) (r : Step)
+    module _ (ch w u : ℕ) (read : characterAt s at ≡ Char ch w u) (r : Step)
         (step : (rootWords′ words′ : List ℤ) → r ≡ openStep (trieOf rootChildren rootWords′ keys children words′) p ch) where
       at-char : roomFrom used tables p (before ch (charsFrom s (at + w))) ≡ found
-      at-char = rw (from-char s at ch w read) at same
+      at-char = rw (from-char s at ch w u read) at same
 
       pub room-next : (q : ParentRef) → r ≡ At q → roomFrom used tables q (charsFrom s (at + w)) ≡ found
       room-next q e = room-char used tables p ch q (charsFrom s (at + w)) (sym (step rootWords words) ∙ e) ∙ at-char
@@ -67,6 +67,6 @@ module _ (used : ℕ) (rootChildren : List ℕ) (rootWords : List ℤ) (keys chi
           → x ≡ newSteps (trieOf rootChildren rootWords′ keys′ children′ words′) p cs)
           → x ≡ found
       room-missing some-chars e x new =
-          let all = part-chars s at ∙ from-char s at ch w read in
-          room-stops used tables p ch (charsFrom s (at + w)) x (still-chars s at some-chars ch w read)
+          let all = part-chars s at ∙ from-char s at ch w u read in
+          room-stops used tables p ch (charsFrom s (at + w)) x (still-chars s at some-chars ch w u read)
           (λ cs chars. new rootWords words keys children cs (all ∙ chars)) (sym (step rootWords words) ∙ e) ∙ at-char

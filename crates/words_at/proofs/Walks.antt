@@ -24,8 +24,8 @@ use Rattle.book.specs.Returns.{Book, isDone}
 use Rattle.book.specs.Prefixes.{Edge, Walked, ended, broken, wordsFrom}
 use Rattle.cuts.specs.declared.Cut.{Cut}
 use Rattle.cuts.specs.Slices.{SeenAs, Placed}
-use Rattle.cuts.specs.Tokens.{span, Written, written}
-use Rattle.cuts.specs.Cuts.{CutAnswer, answer, cutAnswer, andThen, Base, putSpans, spansOf}
+use Rattle.cuts.specs.Tokens.{span, Base, Written, written}
+use Rattle.cuts.specs.Cuts.{CutAnswer, answer, cutAnswer, andThen, putSpans, spansOf}
 use Rattle.cuts.proofs.Sequence.{goes-on, stops, then-after, put-then}
 use Rattle.cuts.proofs.Walks.{Walk, at-root, at-end, at-nothing, at-damage, rest, on-from, past, at-bad, at-word}
 use Rattle.words_at.specs.Walks.{putWalk}

@@ -5,8 +5,8 @@ use mathlib.Core.Bool.{cond}
 use mathlib.Core.List.{List}
 use Rattle.book.specs.declared.Outcome.the-variants.{Done, Damaged}
 use Rattle.book.specs.Prefixes.{Walked}
-use Rattle.cuts.specs.Tokens.{Written}
-use Rattle.cuts.specs.Cuts.{CutAnswer, answer, andThen, Base, putSpans, spansOf}
+use Rattle.cuts.specs.Tokens.{Base, Written}
+use Rattle.cuts.specs.Cuts.{CutAnswer, answer, andThen, putSpans, spansOf}
 
 -- a position's words, and then 8 where its walk met damage: one step of `putWalks`
 unfoldable pub putWalk : Base → List ℕ → ℕ → Written → Walked → CutAnswer

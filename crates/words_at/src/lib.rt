@@ -11,8 +11,8 @@ ghost use Rattle.walk.specs.Walk.{EquallyLong};
 ghost use Rattle.book.specs.Returns.{Book, longestText};
 ghost use Rattle.book.specs.Prefixes.{wordsFrom};
 ghost use Rattle.cuts.specs.Slices.{SeenAs, Characters, Placed};
-ghost use Rattle.cuts.specs.Tokens.{written};
-ghost use Rattle.cuts.specs.Cuts.{cutAnswer, Base};
+ghost use Rattle.cuts.specs.Tokens.{Base, written};
+ghost use Rattle.cuts.specs.Cuts.{cutAnswer};
 ghost use Rattle.words_at.specs.Walks.{putWalk};
 use book::Outcome;
 use cuts::Cut;
@@ -30,7 +30,7 @@ pub fn words_at(
     shift: u32,
     used: usize,
     chars: &[u32],
-    offsets: &[u32],
+    offsets: &[u64],
     n: usize,
     at: usize,
     base: u32,

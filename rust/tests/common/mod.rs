@@ -28,7 +28,7 @@ pub fn changed(dictionary: &Dictionary, change: impl FnOnce(&mut Areas)) -> Dict
 pub fn scratch(work: usize, edges: usize, tokens: usize) -> Scratch {
     let mut scratch = Scratch::with_sizes(work, edges, tokens);
     scratch.chars.fill(901);
-    scratch.offsets.fill(902);
+    scratch.offsets.fill(902 << 32 | 902);
     scratch.starts.fill(903);
     scratch.scores.fill(904.5);
     scratch.ends.fill(905);

@@ -18,21 +18,21 @@ use Rattle.blocks.proofs.cut_blocks.Tie as tie
 
 abbrev Inv-loop : tie.InvT-loop
 Inv-loop root-children root-words keys children words logarithms plan sentence chars₀ offsets₀ starts₀ scores₀ ends₀ records₀ edge-ends₀ edge-records₀
-    room tokens₀ at₀ base₀ count₀ chars offsets starts scores ends records edge-ends edge-records tokens at base count =
+    room tokens₀ at₀ units₀ base₀ count₀ chars offsets starts scores ends records edge-ends edge-records tokens at units base count =
     SameLong chars chars₀ offsets offsets₀ starts starts₀ scores scores₀ ends ends₀ records records₀ edge-ends edge-ends₀ edge-records edge-records₀
     tokens tokens₀
-    × Cutting (trieOf root-children root-words keys children words) logarithms plan room sentence tokens₀ tokens at base count
+    × Cutting (trieOf root-children root-words keys children words) logarithms plan room sentence tokens₀ tokens at units base count
 
 abbrev μ-loop : tie.MeasureT-loop
 μ-loop root-children root-words keys children words logarithms plan sentence chars₀ offsets₀ starts₀ scores₀ ends₀ records₀ edge-ends₀ edge-records₀
-    room tokens₀ at₀ base₀ count₀ chars offsets starts scores ends records edge-ends edge-records tokens at base count =
+    room tokens₀ at₀ units₀ base₀ count₀ chars offsets starts scores ends records edge-ends edge-records tokens at units base count =
     length sentence - at
 
 start-requires : tie.Need-start-requires Inv-loop μ-loop
 start-requires c κs = search needs
 
 loop-holds : tie.Need-loop-holds Inv-loop μ-loop
-loop-holds c = (
+loop-holds c = let entry = c .before .before .before .before .before .before .before .before .before .before .before .before .before .before .before in (
   record {
     long-chars = refl;
     long-offsets = refl;
@@ -44,9 +44,7 @@ loop-holds c = (
     long-edge-records = refl;
     long-tokens = refl;
   },
-  begins _ _ _ _ _ _ _
-      (c .before .before .before .before .before .before .before .before .before .before .before .before .before .before .before .pre .1 .1 .0 .1)
-      (c .start .ensures),
+  begins _ _ _ _ _ _ _ (entry .pre .1 .1 .0 .0) (entry .pre .1 .1 .0 .1) (c .start .ensures),
 )
 
 -- ---- the places of the code that a turn passes: the loop's test, the run, and its cut
@@ -78,7 +76,7 @@ next-recording-requires c κs =
     let turn = c .before .before .before .before in
     let work = lent turn .pre .1 .1 .1 .0 in
     let l = turn .loop .inv in (
-      (before-end (c .before .before), lent turn .pre .1 .1 .0 .0, l .1 .well-formed),
+      (before-end (c .before .before), lent turn .pre .1 .1 .0 .0, l .1 .well-formed, l .1 .few-units),
       (omega (arith, l .0, l .1 .counted, work), omega (arith, l .0, l .1 .counted, work)),
     )
 
@@ -103,7 +101,7 @@ cut-block-requires c κs =
               in-records = omega (arith, within, work, long);
             },
             run .next-recording .ensures .characters,
-            run-in-text (test run .loop .inv .1) (run .next-recording .ensures) (pre .1 .1 .0 .0),
+            run-in-text (test run .loop .inv .1) (run .next-recording .ensures),
           ),
           (omega (arith, long, pre .1 .1 .1 .1), omega (arith, long, pre .1 .1 .1 .1), of-kind (run .next-recording .ensures)),
         ),
@@ -117,13 +115,13 @@ same-length : tie.Need-same-length Inv-loop μ-loop
 same-length c =
     let cut = cut-done (c .before) in
     let run = recorded cut .next-recording .kept in
-    run .1 .1 .1 .0 ∙ test (recorded cut) .loop .inv .0 .long-chars
+    run .1 .1 .1 .1 .0 ∙ test (recorded cut) .loop .inv .0 .long-chars
 
 same-length-2 : tie.Need-same-length-2 Inv-loop μ-loop
 same-length-2 c =
     let cut = cut-done (c .before) in
     let run = recorded cut .next-recording .kept in
-    run .1 .1 .1 .1 .0 ∙ test (recorded cut) .loop .inv .0 .long-offsets
+    run .1 .1 .1 .1 .1 .0 ∙ test (recorded cut) .loop .inv .0 .long-offsets
 
 same-length-3 : tie.Need-same-length-3 Inv-loop μ-loop
 same-length-3 c =
@@ -176,12 +174,12 @@ returns c =
 cast-base : tie.Need-cast-base Inv-loop μ-loop
 cast-base c =
     let run = recorded (cut-done (c .before .before)) in
-    omega (arith, run-in-text (test run .loop .inv .1) (run .next-recording .ensures) (lent (test run) .pre .1 .1 .0 .0))
+    omega (arith, run-in-text (test run .loop .inv .1) (run .next-recording .ensures))
 
 add-base : tie.Need-add-base Inv-loop μ-loop
 add-base c =
     let run = recorded (cut-done (c .before .before)) in
-    omega (arith, run-in-text (test run .loop .inv .1) (run .next-recording .ensures) (lent (test run) .pre .1 .1 .0 .0))
+    omega (arith, run-in-text (test run .loop .inv .1) (run .next-recording .ensures))
 
 advance-requires : tie.Need-advance-requires Inv-loop μ-loop
 advance-requires c κs = search needs
@@ -198,8 +196,8 @@ loop-again c =
     let run = recorded cut .next-recording .kept in
     let areas = cut .cut-block .kept .1 .1 .1 .1 .1 .1 .1 .1 .1 .1 .1 in (
       record {
-        long-chars = run .1 .1 .1 .0 ∙ l .0 .long-chars;
-        long-offsets = run .1 .1 .1 .1 .0 ∙ l .0 .long-offsets;
+        long-chars = run .1 .1 .1 .1 .0 ∙ l .0 .long-chars;
+        long-offsets = run .1 .1 .1 .1 .1 .0 ∙ l .0 .long-offsets;
         long-starts = areas .0 ∙ l .0 .long-starts;
         long-scores = areas .1 .0 ∙ l .0 .long-scores;
         long-ends = areas .1 .1 .0 ∙ l .0 .long-ends;

@@ -15,11 +15,11 @@ use Rattle.cut_all_blocks.proofs.cut_all_blocks.Statement.{statement}
 use Rattle.cut_all_blocks.proofs.cut_all_blocks.Tie as tie
 
 abbrev Inv-loop : tie.InvT-loop
-Inv-loop root-children root-words keys children words shift used sentence chars₀ offsets₀ tokens₀ at₀ base₀ count₀ chars offsets tokens at base count =
-    SameLong chars chars₀ offsets offsets₀ tokens tokens₀ × Cutting root-children root-words keys children words used sentence tokens₀ tokens at base count
+Inv-loop root-children root-words keys children words shift used sentence chars₀ offsets₀ tokens₀ at₀ units₀ base₀ count₀ chars offsets tokens at units base count =
+    SameLong chars chars₀ offsets offsets₀ tokens tokens₀ × Cutting root-children root-words keys children words used sentence tokens₀ tokens at units base count
 
 abbrev μ-loop : tie.MeasureT-loop
-μ-loop root-children root-words keys children words shift used sentence chars₀ offsets₀ tokens₀ at₀ base₀ count₀ chars offsets tokens at base count =
+μ-loop root-children root-words keys children words shift used sentence chars₀ offsets₀ tokens₀ at₀ units₀ base₀ count₀ chars offsets tokens at units base count =
     length sentence - at
 
 -- the function's entry, from the loop's head
@@ -40,7 +40,7 @@ block : (c : tie.Joined2 Inv-loop μ-loop)
     let args = start at .args in
     let r = run c .next-recording .result in
     BlockCut (args .root-children .now) (args .root-words .now) (args .keys .now) (args .children .now) (args .words .now) (args .used)
-    (at .loop .base) (r .matched) (take (r .chars) (run c .next-recording .last .1 .1 .1 .0)) (run c .next-recording .last .1 .1 .1 .1 .0)
+    (at .loop .base) (r .matched) (take (r .chars) (run c .next-recording .last .1 .1 .1 .1 .0)) (run c .next-recording .last .1 .1 .1 .1 .1 .0)
     (at .loop .tokens) (at .loop .count) (c .if2 .cut) (c .if2 .tokens)
 block c =
     ⊎-elim
@@ -59,10 +59,11 @@ start-requires : tie.Need-start-requires Inv-loop μ-loop
 start-requires c κs = search needs
 
 loop-holds : tie.Need-loop-holds Inv-loop μ-loop
-loop-holds c = (
-  record { long-chars = refl; long-offsets = refl; long-tokens = refl },
-  begins _ _ _ _ _ _ _ _ _ (c .before .before .before .before .before .before .before .before .pre .1 .1 .0 .1) (c .start .ensures),
-)
+loop-holds c =
+    let entry = c .before .before .before .before .before .before .before .before in (
+      record { long-chars = refl; long-offsets = refl; long-tokens = refl },
+      begins _ _ _ _ _ _ _ _ _ (entry .pre .1 .1 .0 .0) (entry .pre .1 .1 .0 .1) (c .start .ensures),
+    )
 
 has-next-requires : tie.Need-has-next-requires Inv-loop μ-loop
 has-next-requires c κs = search needs
@@ -73,7 +74,7 @@ next-recording-requires c κs =
     let entry = start loop in
     let room = entry .pre .1 .1 .1 in
     let l = loop .loop .inv in (
-      (before-end (c .before .before), entry .pre .1 .1 .0 .0, l .1 .well-formed),
+      (before-end (c .before .before), entry .pre .1 .1 .0 .0, l .1 .well-formed, l .1 .few-units),
       (omega (arith, l .0, l .1 .counted, room), omega (arith, l .0, l .1 .counted, room)),
     )
 
@@ -90,7 +91,7 @@ cut-all-tokens-requires c κs =
           omega (arith, recorded .fits),
           omega (arith, run-within (loop .loop .inv .1) recorded, loop .loop .inv .0, entry .pre .1 .1 .1, run .next-recording .kept),
           recorded .characters,
-          run-in-text (loop .loop .inv .1) recorded (entry .pre .1 .1 .0 .0),
+          run-in-text (loop .loop .inv .1) recorded,
         ),
       ),
     )
@@ -103,7 +104,7 @@ cut-all-unmatched-requires c κs =
     let recorded = run .next-recording .ensures in (
       omega (arith, recorded .fits),
       omega (arith, run-within (loop .loop .inv .1) recorded, loop .loop .inv .0, entry .pre .1 .1 .1, run .next-recording .kept),
-      run-in-text (loop .loop .inv .1) recorded (entry .pre .1 .1 .0 .0),
+      run-in-text (loop .loop .inv .1) recorded,
     )
 
 is-done-requires : tie.Need-is-done-requires Inv-loop μ-loop
@@ -112,12 +113,12 @@ is-done-requires c κs = search needs
 same-length : tie.Need-same-length Inv-loop μ-loop
 same-length c =
     let run = run (c .before .before) in
-    run .next-recording .kept .1 .1 .1 .0 ∙ head run .loop .inv .0 .long-chars
+    run .next-recording .kept .1 .1 .1 .1 .0 ∙ head run .loop .inv .0 .long-chars
 
 same-length-2 : tie.Need-same-length-2 Inv-loop μ-loop
 same-length-2 c =
     let run = run (c .before .before) in
-    run .next-recording .kept .1 .1 .1 .1 .0 ∙ head run .loop .inv .0 .long-offsets
+    run .next-recording .kept .1 .1 .1 .1 .1 .0 ∙ head run .loop .inv .0 .long-offsets
 
 same-length-3 : tie.Need-same-length-3 Inv-loop μ-loop
 same-length-3 c =
@@ -134,12 +135,12 @@ returns c =
 cast-base : tie.Need-cast-base Inv-loop μ-loop
 cast-base c =
     let run = run (c .before .before) in
-    omega (arith, run-in-text (head run .loop .inv .1) (run .next-recording .ensures) (start (head run) .pre .1 .1 .0 .0))
+    omega (arith, run-in-text (head run .loop .inv .1) (run .next-recording .ensures))
 
 add-base : tie.Need-add-base Inv-loop μ-loop
 add-base c =
     let run = run (c .before .before) in
-    omega (arith, run-in-text (head run .loop .inv .1) (run .next-recording .ensures) (start (head run) .pre .1 .1 .0 .0))
+    omega (arith, run-in-text (head run .loop .inv .1) (run .next-recording .ensures))
 
 advance-requires : tie.Need-advance-requires Inv-loop μ-loop
 advance-requires c κs = search needs
@@ -155,8 +156,8 @@ loop-again c =
     let run = run cut in
     let l = head run .loop .inv in (
       record {
-        long-chars = run .next-recording .kept .1 .1 .1 .0 ∙ l .0 .long-chars;
-        long-offsets = run .next-recording .kept .1 .1 .1 .1 .0 ∙ l .0 .long-offsets;
+        long-chars = run .next-recording .kept .1 .1 .1 .1 .0 ∙ l .0 .long-chars;
+        long-offsets = run .next-recording .kept .1 .1 .1 .1 .1 .0 ∙ l .0 .long-offsets;
         long-tokens = block cut .kept ∙ l .0 .long-tokens;
       },
       goes-behind (l .1) (run .next-recording .ensures) (cut .if2 .cut) _ (block cut .same)

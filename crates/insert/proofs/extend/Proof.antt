@@ -43,7 +43,7 @@ new-step-requires c κs =
     let start = loop .before .before .before .before .before in
     let long = loop .loop .inv .long in (
       sizes-same _ _ _ _ _ _ _ _ _ _ _ (long .rootChildren) (long .rootWords) (long .keys) (long .children) (long .words) (start .pre .0),
-      (inside-same _ _ _ _ _ (long .rootChildren) (long .keys) (loop .loop .inv .inside), value-below _ _ _ _ (read .next-char .ensures)),
+      (inside-same _ _ _ _ _ (long .rootChildren) (long .keys) (loop .loop .inv .inside), value-below _ _ _ _ _ (read .next-char .ensures)),
     )
 
 enum-known-step : tie.Need-enum-known-step Inv-loop μ-loop
@@ -84,21 +84,21 @@ add-at c =
     let child = c .before .before in
     let made = child .before .before .before .before .before .before .before .before .before .before in
     let read = made .before .before .before .before .before .before in
-    omega (arith, inside _ _ _ _ (read .next-char .ensures), read)
+    omega (arith, inside _ _ _ _ _ (read .next-char .ensures), read)
 
 add-node : tie.Need-add-node Inv-loop μ-loop
 add-node c =
     let child = c .before .before in
     let made = child .before .before .before .before .before .before .before .before .before .before in
     let read = made .before .before .before .before .before .before in
-    omega (arith, inside _ _ _ _ (read .next-char .ensures), read)
+    omega (arith, inside _ _ _ _ _ (read .next-char .ensures), read)
 
 loop-less : tie.Need-loop-less Inv-loop μ-loop
 loop-less c =
     let child = c .before .before in
     let made = child .before .before .before .before .before .before .before .before .before .before in
     let read = made .before .before .before .before .before .before in
-    omega (arith, inside _ _ _ _ (read .next-char .ensures), read)
+    omega (arith, inside _ _ _ _ _ (read .next-char .ensures), read)
 
 loop-again : tie.Need-loop-again Inv-loop μ-loop
 loop-again c =

@@ -34,7 +34,7 @@ open-step-requires c κs =
       (here .child-slots ∙ start .pre .1 .1 .0 ∙ sym (here .slots), slots-same _ _ (here .slots) (start .pre .0)),
       (
         shift-same _ _ (here .slots) _ (start .pre .1 .0),
-        (inside-same _ _ _ _ _ (here .entries) (here .slots) (here .inside), value-below _ _ _ _ (read .next-char .ensures)),
+        (inside-same _ _ _ _ _ (here .entries) (here .slots) (here .inside), value-below _ _ _ _ _ (read .next-char .ensures)),
       ),
     )
 
@@ -56,14 +56,14 @@ add-at c =
     let bits = c .before .before .before .before .before .before .before in
     let stepped = bits .before .before .before .before .before .before .before in
     let read = stepped .before .before .before .before in
-    omega (arith, inside _ _ _ _ (read .next-char .ensures), read)
+    omega (arith, inside _ _ _ _ _ (read .next-char .ensures), read)
 
 loop-less : tie.Need-loop-less Inv-loop μ-loop
 loop-less c =
     let bits = c .before .before .before .before .before .before .before in
     let stepped = bits .before .before .before .before .before .before .before in
     let read = stepped .before .before .before .before in
-    omega (arith, inside _ _ _ _ (read .next-char .ensures), read)
+    omega (arith, inside _ _ _ _ _ (read .next-char .ensures), read)
 
 loop-again : tie.Need-loop-again Inv-loop μ-loop
 loop-again c =

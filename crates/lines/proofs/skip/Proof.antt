@@ -32,20 +32,20 @@ returns : tie.Need-returns Inv-loop μ-loop
 returns c =
     let read = c .before .before in
     let loop = read .before .before in
-    stop _ _ _ (loop .loop .inv .1) _ _ (read .next-char .ensures) (unlike _ _ _ (c .before .is-white-space .ensures) (c .if1 .taken)) ∙ loop .loop .inv .0
+    stop _ _ _ (loop .loop .inv .1) _ _ _ (read .next-char .ensures) (unlike _ _ _ (c .before .is-white-space .ensures) (c .if1 .taken)) ∙ loop .loop .inv .0
 
 add-end : tie.Need-add-end Inv-loop μ-loop
-add-end c = omega (arith, inside _ _ _ _ (c .before .before .before .next-char .ensures))
+add-end c = omega (arith, inside _ _ _ _ _ (c .before .before .before .next-char .ensures))
 
 loop-less : tie.Need-loop-less Inv-loop μ-loop
-loop-less c = omega (arith, inside _ _ _ _ (c .before .before .before .next-char .ensures))
+loop-less c = omega (arith, inside _ _ _ _ _ (c .before .before .before .next-char .ensures))
 
 loop-again : tie.Need-loop-again Inv-loop μ-loop
 loop-again c =
     let tested = c .before .before in
     let read = tested .before in
     let loop = read .before .before in (
-      pass _ _ _ (loop .loop .inv .1) _ _ (read .next-char .ensures) (alike _ _ _ (tested .is-white-space .ensures) (c .before .if1 .left))
+      pass _ _ _ (loop .loop .inv .1) _ _ _ (read .next-char .ensures) (alike _ _ _ (tested .is-white-space .ensures) (c .before .if1 .left))
           ∙ loop .loop .inv .0,
       search still-chars,
     )

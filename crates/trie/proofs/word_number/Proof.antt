@@ -18,8 +18,8 @@ returns-2 : tie.Need-returns-2
 returns-2 c = search (below-zero, sfits-of)
 
 cast-n : tie.Need-cast-n
-cast-n c = let entry = c .before .before .before in
-    casts (now (entry .args .words)) (entry .args .i) (entry .pre) (sfits-of (c .before .before .w .given)) (c .if2 .left)
+cast-n c = let entry = c .before .before in
+    casts (now (entry .args .words)) (entry .args .i) (entry .pre) (sfits-of (c .before .w .given)) (c .if1 .left)
 
 returns-3 : tie.Need-returns-3
 returns-3 c = search (is-record, sfits-of)

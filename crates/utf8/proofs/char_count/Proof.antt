@@ -27,19 +27,19 @@ enum-known-w : tie.Need-enum-known-w Inv-loop μ-loop
 enum-known-w c = search needs
 
 add-at : tie.Need-add-at Inv-loop μ-loop
-add-at c = omega (arith, inside _ _ _ _ (sym (c .before .before .before .read-char .ensures) ∙ c .before .w .given .1))
+add-at c = omega (arith, inside _ _ _ _ _ (sym (c .before .before .before .read-char .ensures) ∙ c .before .w .given .1))
 
 add-n : tie.Need-add-n Inv-loop μ-loop
-add-n c = omega (arith, inside _ _ _ _ (sym (c .before .before .before .read-char .ensures) ∙ c .before .w .given .1))
+add-n c = omega (arith, inside _ _ _ _ _ (sym (c .before .before .before .read-char .ensures) ∙ c .before .w .given .1))
 
 loop-less : tie.Need-loop-less Inv-loop μ-loop
-loop-less c = omega (arith, inside _ _ _ _ (sym (c .before .before .before .read-char .ensures) ∙ c .before .w .given .1))
+loop-less c = omega (arith, inside _ _ _ _ _ (sym (c .before .before .before .read-char .ensures) ∙ c .before .w .given .1))
 
 loop-again : tie.Need-loop-again Inv-loop μ-loop
 loop-again c = (
-  omega (arith, inside _ _ _ _ (sym (c .before .before .before .read-char .ensures) ∙ c .before .w .given .1)),
-  omega (arith, inside _ _ _ _ (sym (c .before .before .before .read-char .ensures) ∙ c .before .w .given .1)),
-  count-char _ _ _ _ (c .before .before .before .before .before .loop .inv .2) _ _
+  omega (arith, inside _ _ _ _ _ (sym (c .before .before .before .read-char .ensures) ∙ c .before .w .given .1)),
+  omega (arith, inside _ _ _ _ _ (sym (c .before .before .before .read-char .ensures) ∙ c .before .w .given .1)),
+  count-char _ _ _ _ (c .before .before .before .before .before .loop .inv .2) _ _ _
       (sym (c .before .before .before .read-char .ensures) ∙ c .before .w .given .1),
 )
 

@@ -30,14 +30,14 @@ abbrev third : tie.After-wide4 → tie.After-wide3
 third c = c .before .before .before
 
 by-two : (c : tie.Then2) → Spells (text (first (c .before))) (position (first (c .before)))
-    (first (c .before) .wide .result * 0x40 + c .before .wide2 .result) 0x3080 2
+    (first (c .before) .wide .result * 0x40 + c .before .wide2 .result) 0x3080 2 1
 by-two c =
     let b1 = c .before in
     let b0 = first b1 in
     next-2 _ _ (lent b0 .pre .0) (lent b0 .pre .1) _ (b0 .wide .ensures .0) _ (b1 .wide2 .ensures .0) (b1 .before .before .if1 .left) (c .if2 .taken)
 
 by-three : (c : tie.Then3) → Spells (text (first (second (c .before)))) (position (first (second (c .before))))
-    ((first (second (c .before)) .wide .result * 0x40 + second (c .before) .wide2 .result) * 0x40 + c .before .wide3 .result) 0xE2080 3
+    ((first (second (c .before)) .wide .result * 0x40 + second (c .before) .wide2 .result) * 0x40 + c .before .wide3 .result) 0xE2080 3 1
 by-three c =
     let b2 = c .before in
     let b1 = second b2 in
@@ -48,7 +48,7 @@ by-three c =
 by-four : (c : tie.After-wide4)
     → Spells (text (first (second (third c)))) (position (first (second (third c))))
     (((first (second (third c)) .wide .result * 0x40 + second (third c) .wide2 .result) * 0x40 + third c .wide3 .result) * 0x40 + c .wide4 .result)
-    0x3C82080 4
+    0x3C82080 4 2
 by-four c =
     let b2 = third c in
     let b1 = second b2 in

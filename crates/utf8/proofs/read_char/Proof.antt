@@ -48,7 +48,7 @@ module _ (c : tie.After-wide3) where
 
 -- ---- what the bytes spell, where the tests have passed
 
-two : (c : tie.Else4) → let bytes = c .before .before .before in Spells (text bytes) (position bytes) (c1 bytes) 0x3080 2
+two : (c : tie.Else4) → let bytes = c .before .before .before in Spells (text bytes) (position bytes) (c1 bytes) 0x3080 2 1
 two c =
     let bytes = c .before .before .before in
     rw (together bytes)
@@ -59,7 +59,7 @@ module _ (c : tie.Else7) where
   abbrev bytes-3 : tie.After-wide3
   bytes-3 = c .before .before .before .before .before .before
 
-  three : Spells (text bytes-3) (position bytes-3) (c1 bytes-3 * 0x40 + c .before .tail-at .result) 0xE2080 3
+  three : Spells (text bytes-3) (position bytes-3) (c1 bytes-3 * 0x40 + c .before .tail-at .result) 0xE2080 3 1
   three =
       let begun = c .before .before .before in
       rw (together bytes-3)
@@ -79,7 +79,7 @@ module _ (c : tie.Else10) where
   bytes-4 = begun-4 .before .before .before
 
   four : Spells (text bytes-4) (position bytes-4)
-      ((c1 bytes-4 * 0x40 + c .before .before .before .tail-at2 .result) * 0x40 + c .before .tail-at3 .result) 0x3C82080 4
+      ((c1 bytes-4 * 0x40 + c .before .before .before .tail-at2 .result) * 0x40 + c .before .tail-at3 .result) 0x3C82080 4 2
   four =
       rw (together bytes-4)
       (is-four (text bytes-4) (position bytes-4) (b0 bytes-4) refl (within bytes-4) (b1 bytes-4) (second bytes-4)

@@ -41,16 +41,16 @@ enum-known-child : tie.Need-enum-known-child Inv-loop μ-loop
 enum-known-child c = search needs
 
 add-at : tie.Need-add-at Inv-loop μ-loop
-add-at c = omega (arith, inside _ _ _ _ (c .before .before .before .before .before .next-char .ensures))
+add-at c = omega (arith, inside _ _ _ _ _ (c .before .before .before .before .before .next-char .ensures))
 
 loop-less : tie.Need-loop-less Inv-loop μ-loop
-loop-less c = omega (arith, inside _ _ _ _ (c .before .before .before .before .before .next-char .ensures))
+loop-less c = omega (arith, inside _ _ _ _ _ (c .before .before .before .before .before .next-char .ensures))
 
 loop-again : tie.Need-loop-again Inv-loop μ-loop
 loop-again c =
     let stepped = c .before .before .before .before in
     let entry = stepped .before .before .before .before .before .before .before .before in (
-      omega (arith, inside _ _ _ _ (stepped .before .next-char .ensures)),
+      omega (arith, inside _ _ _ _ _ (stepped .before .next-char .ensures)),
       leads-open _ _ _ (entry .pre .1 .0) _ _ _ _ (c .before .before .child .given .1) (stepped .open-step .ensures),
       search still-chars,
       search room-next,

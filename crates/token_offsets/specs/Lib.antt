@@ -1,0 +1,2 @@
+-- What is claimed of the offsets of tokens.
+pub mod Claims
