@@ -27,7 +27,13 @@ use Rattle.cuts.specs.Blocks.{blocksOf}
 use Rattle.cuts.specs.Edges.{walksOf, edgesWithin}
 use Rattle.cuts.specs.Tokens.{stepsFrom, piecesOf, joined, cutRoute, singly, runsOf, parts, partsOf, wordsOfSize, searched, tokenOf}
 use Rattle.cuts.specs.Cuts.{putSpans, putWalks, cutBlock, searchBlock, cutAllBlock, cutBlocks, cutWith, cutOf, cutAllOf, cutForSearchOf}
-use Rattle.cuts.specs.Examples.{StarredExamples, SearchExamples, Utf16Examples}
+use Rattle.cuts.specs.Examples.{InOrder, AsManyNumbers, StarredExamples, SearchExamples, Utf16Examples}
+
+pub in-order : InOrder
+in-order c d b e u v = refl
+
+pub as-many-numbers : AsManyNumbers
+as-many-numbers t = refl
 
 -- all by computation, under one list of the definitions that are computed
 examples : StarredExamples × SearchExamples × Utf16Examples

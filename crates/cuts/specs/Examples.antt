@@ -11,7 +11,8 @@ use Rattle.score.specs.Logarithm.{StarredLogarithms}
 use Rattle.book.specs.declared.Outcome.the-variants.{Done}
 use Rattle.book.specs.Returns.{Book, emptyBook}
 use Rattle.book.specs.Enter.{LoadAnswer, loadAnswer, loadOf}
-use Rattle.cuts.specs.Tokens.{tokenWidth}
+use Rattle.cuts.specs.declared.Token.{Token}
+use Rattle.cuts.specs.Tokens.{numbersOf, tokenWidth}
 use Rattle.cuts.specs.Cuts.{CutAnswer, answer, cutOf, cutAllOf, cutForSearchOf}
 
 -- a dictionary's text is loaded into the empty book of 1 root entry, 64 slots and 16 records
@@ -32,6 +33,16 @@ allTokens numbers = answer Done (record { count = length numbers / tokenWidth; a
 -- a token's numbers: character start and end, byte start and end, UTF-16 start and end
 abbrev pub token : ℕ → ℕ → ℕ → ℕ → ℕ → ℕ → List ℕ
 token c d b e u v = c ∷ d ∷ b ∷ e ∷ u ∷ v ∷ []
+
+-- the order in which a token's numbers stand, whatever they are
+abbrev pub InOrder : Type 0
+InOrder =
+    (c d b e u v : ℕ)
+    → numbersOf (record { chars = record { 0 = c; 1 = d }; bytes = record { 0 = b; 1 = e }; utf16 = record { 0 = u; 1 = v } }) ≡ token c d b e u v
+
+-- a token takes as many places of the token area as it has numbers
+abbrev pub AsManyNumbers : Type 0
+AsManyNumbers = (t : Token) → length (numbersOf t) ≡ tokenWidth
 
 -- with places for 16 characters and 16 edges
 abbrev pub Cut : List ℕ → List ℕ → List ℕ → Type 0
