@@ -47,8 +47,9 @@
  *     digits that stand alone join with those beside them. So a word of one letter or digit may come joined, as 5 in 55.
  *   - Nothing is folded: upper and lower case, full width and compatibility forms are different characters.
  *   - A byte-order mark (U+FEFF) is no white space. It becomes part of the first word, which no cut then finds: strip it.
- *   - A line without a frequency gives its word the frequency 0. Where the total is 0 the shortest word wins at each place,
- *     so give frequencies. All 1 will do; then the fewest steps win, a step being a word or a character alone.
+ *   - A line without a frequency gives its word the frequency 1. A list of bare words will do: all then count alike, and the
+ *     fewest steps win, a step being a word or a character alone. Words with frequencies above 1 are likelier than bare ones.
+ *   - Write 0 for a word that is to lose to every other. Where all frequencies are 0 the shortest word wins at each place.
  *   - Of several best ways through a block the one taken has the longer step at the first place where it parts from any other
  *     of them. Where every way takes a word of frequency 0, which makes them all alike, this need not be so.
  *   - Frequency 0 does not remove a word: it is held, and a cut answers it where no better way leads past it. No call removes
@@ -153,7 +154,7 @@ enum tongsvale_outcome {
     TONGSVALE_MALFORMED = 3,
     /* A frequency malformed or over 4,294,967,295; as 3. */
     TONGSVALE_BAD_FREQUENCY = 4,
-    /* The total would pass 4,294,967,295; as 3. */
+    /* The total would pass 4,294,967,295, by a word without a frequency too, which adds 1; as 3. */
     TONGSVALE_TOTAL_TOO_LARGE = 5,
     /* A new word, and every record is taken; as 3. */
     TONGSVALE_RECORDS_FULL = 6,
@@ -305,7 +306,7 @@ uint32_t tongsvale_prepare(
     double *logarithms, size_t logarithms_length);
 
 /* Loads a dictionary text into the book. A line ends at LF or at the text's end, its fields are split at Unicode White_Space:
- * the word, its frequency (an optional + and digits; none means 0), and more that is ignored. A held word gets the new
+ * the word, its frequency (an optional + and digits; none means 1), and more that is ignored. A held word gets the new
  * frequency. Blank lines are passed over. The first refused line ends the load: it leaves no trace, and the lines before it
  * stay. Afterwards the areas hold the words that entered, and the head counts the records, slots and nodes that they took and
  * the new total. Numbers 0 to 8; 1 and 2 are tested first, then for each line 3, 4, 8, 5, 6, 7, and last the 8 of a book that

@@ -17,10 +17,11 @@ and to see that the file is what this script says:
 import os
 import re
 
-# ---- document 01's rules of a line, and its logarithm
+# ---- document 01's rules of a line, note 7's of document 02 for an absent frequency, and the logarithm
 
 WHITE_SPACE = "\t-\r \x85\xa0\u1680\u2000-\u200a\u2028\u2029\u202f\u205f\u3000"
 GREATEST = 4294967295
+ABSENT_MEANS = 1
 LAST_NODE = 16777215
 MINUS_INFINITY = "minus infinity"
 
@@ -245,7 +246,7 @@ class Book:
         fields = re.findall(f"[^{WHITE_SPACE}]+", text)
         if not fields:
             return
-        frequency = frequency_of(fields[1]) if len(fields) > 1 else 0
+        frequency = frequency_of(fields[1]) if len(fields) > 1 else ABSENT_MEANS
         if frequency is None:
             raise Refused(4)
         self.enter([ord(c) for c in fields[0]], frequency)

@@ -189,7 +189,7 @@ def classes():
         yield f"{name}:" + "".join(f" {range_of(a, b, 4)}" for a, b, inside in ranges if inside)
 
 
-# ---- frequencies and lines: document 01's rules, on characters
+# ---- frequencies and lines: document 01's rules, on characters; that an absent frequency means 1 is note 7's of document 02
 
 WHITE_SPACE_TEXT = "".join(chr(c) for c in sorted(WHITE_SPACE))
 
@@ -222,7 +222,7 @@ def line_of(line):
     fields = re.findall(f"[^{WHITE_SPACE_TEXT}]+", text)
     if not fields:
         return "blank"
-    said = frequency_of(fields[1]) if len(fields) > 1 else 0
+    said = frequency_of(fields[1]) if len(fields) > 1 else 1
     if said is None:
         return "no frequency"
     start = len(text[: text.index(fields[0])].encode())
@@ -230,8 +230,9 @@ def line_of(line):
 
 
 LINES = [
-    "甲 5".encode(), "甲".encode(), " \t甲  5\t n x".encode(), "\u3000甲\u30005\u3000".encode(), "a\x85+7".encode(), "a\u200B5".encode(),
-    b"a 5\r", b"\x00 1", b"", " \t\r\xA0".encode(), b"a +", b"a x", "a \uFF11".encode(), b"a 5 \xFF", b"\xE7\x94 5", b"a x \xC3",
+    "甲 5".encode(), "甲".encode(), "甲\u3000\r".encode(), "甲 0".encode(), " \t甲  5\t n x".encode(), "\u3000甲\u30005\u3000".encode(),
+    "a\x85+7".encode(), "a\u200B5".encode(), b"a 5\r", b"\x00 1", b"", " \t\r\xA0".encode(), b"a +", b"a x", "a \uFF11".encode(),
+    b"a 5 \xFF", b"\xE7\x94 5", b"a x \xC3",
 ]  # fmt: skip
 
 TEXT = b"a 1\nb\r\n\nc"

@@ -17,7 +17,7 @@ and to see that the file is what this script says:
 
 import struct
 
-from books import MINUS_INFINITY, Book, Refused, cases, commands_of, decoded, lengths, logarithm, shown, store
+from books import ABSENT_MEANS, MINUS_INFINITY, Book, Refused, cases, commands_of, decoded, lengths, logarithm, shown, store
 
 # ---- document 01's classes of characters; the last three ranges of Han are note 9's of document 02
 
@@ -81,7 +81,7 @@ class Words:
 
     def __init__(self, dictionary):
         fields = [line.split(" ") for line in dictionary.split("\n") if line]
-        self.frequencies = {word: int(frequency) for word, frequency in fields}
+        self.frequencies = {word: int(given[0]) if given else ABSENT_MEANS for word, *given in fields}
         self.log_total = double(logarithm(sum(self.frequencies.values())))
 
     def words(self, block, at):

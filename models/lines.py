@@ -17,7 +17,7 @@ and to see that the file is what this script says:
 import os
 import re
 
-from books import WHITE_SPACE, Book, Refused
+from books import ABSENT_MEANS, WHITE_SPACE, Book, Refused
 from cuts import ALL, CUT, SEARCH, TOKEN_WIDTH, Areas, Words, cut, test
 
 INPUT = os.path.join(os.path.dirname(__file__), "..", "crates", "cutlines", "stdin")
@@ -57,7 +57,7 @@ class Run:
         for entered in lines_of(text)[: line if number == 0 else line - 1]:
             fields = re.findall(f"[^{WHITE_SPACE}]+", entered.decode())
             if fields:
-                self.plain.frequencies[fields[0]] = int(fields[1]) if len(fields) > 1 else 0
+                self.plain.frequencies[fields[0]] = int(fields[1]) if len(fields) > 1 else ABSENT_MEANS
         self.plain = Words("\n".join(f"{word} {frequency}" for word, frequency in self.plain.frequencies.items()))
         return number, line
 

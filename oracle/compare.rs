@@ -9,6 +9,9 @@
 //! is only asked which sentences it cuts otherwise. Every made-up book and sentence comes from one fixed seed. The program ends with
 //! 1 if there was a difference.
 //!
+//! A word without a frequency counts 1 here and 0 in the Rust (note 7 of document 02). The library gets every text as it is, and the
+//! Rust gets it with the 1 filled in.
+//!
 //! The Rust has no UTF-16 offsets (note 6 of document 02). They are worked out from its own words, by Rust's own encoder.
 
 mod library;
@@ -149,30 +152,69 @@ struct Cuts {
     all: Vec<u32>,
 }
 
+/// Where the word of a line ends, if it is bare: the line has no second field.
+fn bare_end(line: &str) -> Option<usize> {
+    (line.split_whitespace().count() == 1).then(|| line.trim_end().len())
+}
+
+fn bare_words(text: &str) -> u64 {
+    text.split_inclusive('\n').filter(|line| bare_end(line).is_some()).count() as u64
+}
+
+/// A dictionary text as the Rust gets it: a bare word counts 1 by note 7 of document 02, and 0 in the Rust, so a space and 1 are put
+/// right after it. All else stays.
+fn filled(text: &str) -> String {
+    let mut filled = String::with_capacity(text.len());
+    for line in text.split_inclusive('\n') {
+        match bare_end(line) {
+            Some(end) => filled.extend([&line[..end], " 1", &line[end..]]),
+            None => filled.push_str(line),
+        }
+    }
+    filled
+}
+
 /// Whether a sentence has a character of Extensions G, H or I.
 fn has_rare(sentence: &str) -> bool {
     sentence.chars().any(is_rare)
 }
 
-/// The Rust that is compared, with L: by its own ranges, and by note 9's too for the sentences that have such characters.
+/// The Rust that is compared, with L: by its own ranges, and by note 9's too for the sentences that have such characters. A third one
+/// gets the texts with their bare words, and is only asked which sentences it cuts otherwise.
 struct Rust {
     plain: with_l::Rust,
     rare: with_rare::Rust,
+    unfilled: with_l::Rust,
+    /// The texts with bare words, and these words.
+    bare_texts: u64,
+    bare_words: u64,
 }
 
 impl Rust {
     fn empty() -> Self {
-        Rust { plain: with_l::Rust::empty(), rare: with_rare::Rust::empty() }
+        Rust {
+            plain: with_l::Rust::empty(),
+            rare: with_rare::Rust::empty(),
+            unfilled: with_l::Rust::empty(),
+            bare_texts: 0,
+            bare_words: 0,
+        }
     }
 
     fn load(&mut self, text: &str) {
-        self.plain.load(text);
-        self.rare.load(text);
+        let filled = filled(text);
+        self.plain.load(&filled);
+        self.rare.load(&filled);
+        self.unfilled.load(text);
+        let bare = bare_words(text);
+        self.bare_texts += u64::from(bare > 0);
+        self.bare_words += bare;
     }
 
     fn add(&mut self, word: &str, frequency: u64) -> u64 {
         let added = self.plain.add(word, frequency);
         assert_eq!(added, self.rare.add(word, frequency));
+        assert_eq!(added, self.unfilled.add(word, frequency));
         added
     }
 
@@ -234,21 +276,35 @@ impl Plan {
         self.calls.push(Call::Load(text));
     }
 
-    /// A load whose lines are written in every manner that is accepted.
-    fn load_oddly(&mut self, random: &mut Random, entries: &[(String, u64)]) {
+    /// A load of a text as it is, for which the total has room.
+    fn load_text(&mut self, text: &str) {
+        for line in text.lines() {
+            let mut fields = line.split_whitespace();
+            if let Some(word) = fields.next() {
+                let frequency = fields.next().map_or(1, |field| field.parse().unwrap());
+                assert_eq!(self.enter(word, frequency), frequency, "the total has no room");
+            }
+        }
+        self.calls.push(Call::Load(text.to_string()));
+    }
+
+    /// A load whose lines are written in every manner that is accepted. Every tenth word is bare, or has frequency 0 where there are to
+    /// be no bare words or the total has no room.
+    fn load_oddly(&mut self, random: &mut Random, entries: &[(String, u64)], bare: bool) {
         let mut text = String::new();
         for (i, (word, frequency)) in entries.iter().enumerate() {
             while random.below(8) == 0 {
                 text.push_str(random.one_of(&["\n", " \n", "\r\n", "\u{3000}\t\n", "\u{85}\u{2028}\n"]));
             }
-            let mut absent = random.below(10) == 0;
-            let frequency = self.enter(word, if absent { 0 } else { *frequency });
-            absent = absent && frequency == 0;
+            let absent = random.below(10) == 0;
+            let frequency = self.enter(word, if absent { u64::from(bare) } else { *frequency });
             if random.below(6) == 0 {
                 text.push_str(random.one_of(&WHITE_SPACE));
             }
             text.push_str(word);
-            if !absent {
+            if absent && frequency == 0 {
+                text.push_str(" 0");
+            } else if !absent {
                 text.push_str(random.one_of(&WHITE_SPACE));
                 text.push_str(random.one_of(&["", "", "", "+", "0", "+000"]));
                 write!(text, "{frequency}").unwrap();
@@ -316,6 +372,7 @@ struct Comparison {
     /// Those whose UTF-16 offsets are other numbers than their character offsets.
     shifted: u64,
     rare: Rare,
+    bare: Bare,
     differences: u64,
     work: Option<Work>,
     lent: Vec<u32>,
@@ -336,6 +393,25 @@ impl Rare {
             self.sentences += 1;
             self.answers += 3 * books as u64;
             self.otherwise += u64::from(rust.plain.cuts(sentence) != *cuts);
+        }
+    }
+}
+
+/// The texts with bare words, these words, the sentences cut in books that have some, and how many of these sentences the Rust without
+/// the 1 filled in cuts otherwise. Left out are sentences with characters of Extensions G, H and I.
+#[derive(Default)]
+struct Bare {
+    texts: u64,
+    words: u64,
+    sentences: u64,
+    otherwise: u64,
+}
+
+impl Bare {
+    fn count(&mut self, rust: &Rust, cuts: &Cuts, sentence: &str) {
+        if rust.bare_words > 0 && !has_rare(sentence) {
+            self.sentences += 1;
+            self.otherwise += u64::from(rust.unfilled.cuts(sentence) != *cuts);
         }
     }
 }
@@ -361,7 +437,7 @@ impl Comparison {
     }
 
     /// The Rust's book of a plan.
-    fn rust_book(plan: &Plan) -> Rust {
+    fn rust_book(&mut self, plan: &Plan) -> Rust {
         let mut rust = Rust::empty();
         for call in &plan.calls {
             match call {
@@ -370,6 +446,8 @@ impl Comparison {
             }
         }
         assert_eq!(rust.records_and_total(), (plan.held.len() as u64, plan.total));
+        self.bare.texts += rust.bare_texts;
+        self.bare.words += rust.bare_words;
         rust
     }
 
@@ -434,6 +512,7 @@ impl Comparison {
         let chars = sentence.chars().count();
         let cuts = rust.cuts(sentence);
         self.rare.count(rust, &cuts, sentence, books.len());
+        self.bare.count(rust, &cuts, sentence);
         let Cuts { cut, search: searched, all: cut_all } = cuts;
         let mut work = self.work.take().unwrap_or_else(|| Work::new(1024, 16_384));
         work.reserve(16 * chars.min(100_000) + 3 * chars);
@@ -530,6 +609,8 @@ impl Comparison {
         );
         let Rare { sentences, answers, otherwise } = self.rare;
         println!("  with characters of Extensions G, H and I: {sentences} sentences, {answers} cuts; the Rust without them cuts {otherwise} otherwise");
+        let Bare { texts, words, sentences, otherwise } = self.bare;
+        println!("  with bare words: {texts} texts, {words} bare words, {sentences} sentences; the Rust without the 1 filled in cuts {otherwise} otherwise");
     }
 
     fn answers(&self) -> u64 {
@@ -625,7 +706,7 @@ fn short_books() -> Vec<Plan> {
 
 fn compare_short(comparison: &mut Comparison) {
     for plan in short_books() {
-        let mut rust = Comparison::rust_book(&plan);
+        let mut rust = comparison.rust_book(&plan);
         let books = comparison.library_books(&plan);
         every_sentence(&ALPHABET, 4, |sentence| comparison.sentence(&plan, &rust, &books, sentence));
         every_sentence(&['打', '开', '客', '厅', '灯', 'a'], 5, |sentence| comparison.sentence(&plan, &rust, &books, sentence));
@@ -664,12 +745,43 @@ fn rare_books() -> Vec<Plan> {
 
 fn compare_rare(comparison: &mut Comparison) {
     for plan in rare_books() {
-        let mut rust = Comparison::rust_book(&plan);
+        let mut rust = comparison.rust_book(&plan);
         let books = comparison.library_books(&plan);
         every_sentence(&RARE_ALPHABET, 4, |sentence| comparison.sentence(&plan, &rust, &books, sentence));
         comparison.words(&plan, &mut rust, &books);
     }
     assert!(comparison.rare.otherwise > 0, "the Rust without Extensions G, H and I cuts every sentence alike");
+}
+
+// ---- every short sentence with bare words
+
+/// Books over the alphabet of the short sentences, of bare words and of these beside the frequencies 0, 1 and 2.
+fn bare_books() -> Vec<Plan> {
+    let words = [
+        "甲", "甲乙", "乙甲", "甲乙甲", "\u{20000}", "甲\u{20000}", "\u{20000}\u{20000}", "a", "a1", "1", "1.1", "a-", "B_a", "甲a",
+        "a甲", "+#", "&", "#1", "-1", "%", "1%", "乙.", "._", "乙", "乙\u{20000}", "1甲",
+    ];
+    let books = [
+        ("bare words", &["", "\r", "\u{3000}", "\t", " \u{85}"][..]),
+        ("bare words beside 0, 1 and 2", &["", " 0", "\r", " 1", "\u{3000}", "\t", " 2"][..]),
+    ];
+    let plan = |(name, rests): (&str, &[&str])| {
+        let mut plan = Plan::new(name.to_string());
+        let lines = words.iter().zip(rests.iter().cycle()).map(|(word, rest)| format!("{word}{rest}\n"));
+        plan.load_text(&lines.collect::<String>());
+        plan
+    };
+    books.map(plan).into()
+}
+
+fn compare_bare(comparison: &mut Comparison) {
+    for plan in bare_books() {
+        let mut rust = comparison.rust_book(&plan);
+        let books = comparison.library_books(&plan);
+        every_sentence(&ALPHABET, 4, |sentence| comparison.sentence(&plan, &rust, &books, sentence));
+        comparison.words(&plan, &mut rust, &books);
+    }
+    assert!(comparison.bare.otherwise > 0, "the Rust without the 1 filled in cuts every sentence alike");
 }
 
 // ---- books and sentences by chance
@@ -734,6 +846,8 @@ fn grow_by_chance(plan: &mut Plan, random: &mut Random, number: usize, words: us
         _ if words > 100 => random.below(1_000_000) as u64,
         _ => frequency_by_chance(random),
     };
+    // Of the books whose frequencies are 0 every second has no bare words, so that it still has the total 0, or 1 by the last call.
+    let bare = !matches!(kind, 2 | 3) || number % 2 == 1;
     let mut entries = Vec::new();
     for _ in 0..1 + random.below(words) + words / 2 {
         let longest = if random.below(12) == 0 { 12 } else { 4 };
@@ -753,7 +867,7 @@ fn grow_by_chance(plan: &mut Plan, random: &mut Random, number: usize, words: us
         } else {
             let some: Vec<(String, u64)> =
                 some.into_iter().filter(|(word, _)| !word.contains(char::is_whitespace)).collect();
-            plan.load_oddly(random, &some);
+            plan.load_oddly(random, &some, bare);
         }
         if random.below(20) == 0 {
             plan.add("", 5);
@@ -787,7 +901,7 @@ fn compare_by_chance(comparison: &mut Comparison, books: usize, words: usize, se
     let mut random = Random(SEED + words as u64);
     for number in 0..books {
         let (plan, characters) = plan_by_chance(&mut random, number, words);
-        let mut rust = Comparison::rust_book(&plan);
+        let mut rust = comparison.rust_book(&plan);
         let books = comparison.library_books(&plan);
         comparison.words(&plan, &mut rust, &books);
         let held: Vec<&str> = plan.held.keys().map(String::as_str).collect();
@@ -796,7 +910,7 @@ fn compare_by_chance(comparison: &mut Comparison, books: usize, words: usize, se
             let mut true_ln = with_ln::Rust::empty();
             for call in &plan.calls {
                 match call {
-                    Call::Load(text) => true_ln.load(text),
+                    Call::Load(text) => true_ln.load(&filled(text)),
                     Call::Add(word, frequency) => {
                         true_ln.add(word, *frequency);
                     }
@@ -861,17 +975,10 @@ fn readable(sentence: &str, tokens: &[u32]) -> String {
 
 fn compare_real(comparison: &mut Comparison, dict: &str, text: &str, otherwise: &mut Otherwise) {
     let mut plan = Plan::new(format!("{} lines of a real dictionary", dict.lines().count()));
-    for line in dict.lines() {
-        let mut fields = line.split_whitespace();
-        if let Some(word) = fields.next() {
-            let frequency = fields.next().map_or(0, |field| field.parse().unwrap());
-            assert_eq!(plan.enter(word, frequency), frequency, "the dictionary passes the greatest total");
-        }
-    }
-    plan.calls.push(Call::Load(dict.to_string()));
-    let mut rust = Comparison::rust_book(&plan);
+    plan.load_text(dict);
+    let mut rust = comparison.rust_book(&plan);
     let mut true_ln = with_ln::Rust::empty();
-    true_ln.load(dict);
+    true_ln.load(&filled(dict));
     let records = plan.held.len();
     let books: Vec<Sized> = [(65_536, 1_048_576, records), (256, 1_048_576, records + 1), (1, 4_194_304, 1_048_576)]
         .iter()
@@ -1029,6 +1136,16 @@ impl Sample {
         assert_eq!(self.plan.total, total);
     }
 
+    /// Note 7's bare words, with white space behind them, beside words of frequency 0: if they counted 0, 打开灯 would be cut as 打开 灯.
+    /// They are book A's, which is loaded again afterwards, so that the total is what it was.
+    fn bare_words(&mut self) {
+        let total = self.plan.total;
+        self.plan.load_text("打开 0\n开灯\n打\r\n\n\u{3000}开\t\n灯\u{3000}\n客厅\u{A0}\r\n客厅灯 \n厅灯 0");
+        self.take_calls();
+        self.load_again(&book_a());
+        assert_eq!(self.plan.total, total);
+    }
+
     /// The slots that the held words take beside 256 root entries.
     fn slots(&self) -> usize {
         let mut steps = std::collections::BTreeSet::new();
@@ -1049,7 +1166,8 @@ fn sample_heading() -> String {
 # The lines down to \"{OUR_OWN}\" are made by `oracle/compare FOLDER --sample` (seed {SEED}), and so are the lines
 # that answer them in `stdout`; not edited by hand. The answers are the Rust's (jieba-rs, commit bac49e65b8, with document 01's
 # logarithm L in place of ln, HMM off, and with note 9's ranges of Han for sentences that have such characters), with UTF-16 offsets
-# worked out from its words; a load's says that the Rust accepted the text, and how many lines the text has.
+# worked out from its words; a load's says that the Rust accepted the text, and how many lines the text has. The Rust got the texts
+# with a space and 1 after each word that has no frequency, which note 7 has count 1.
 "
     )
 }
@@ -1102,9 +1220,10 @@ fn sample() -> Sample {
         }
     }
     sample.rare_names();
+    sample.bare_words();
     sample.comment(OUR_OWN);
-    let (records, slots) = (sample.plan.held.len(), sample.slots());
-    println!("sample: {} lines; {records} records, {slots} slots", sample.list.lines().count());
+    let (records, slots, bare) = (sample.plan.held.len(), sample.slots(), sample.rust.bare_words);
+    println!("sample: {} lines, {bare} bare words; {records} records, {slots} slots", sample.list.lines().count());
     assert!(records <= 256 - 60 && slots <= 768 - 160, "no room for the frames of our own");
     sample
 }
@@ -1149,6 +1268,7 @@ fn main() {
         otherwise.list = Box::new(std::fs::File::create(path).expect("the list cannot be written"));
     }
     let mut all = (0, 0, 0);
+    let mut bare = (0, 0);
     let mut part = |name: &str, run: &mut dyn FnMut(&mut Comparison)| {
         let since = Instant::now();
         let mut comparison = Comparison::default();
@@ -1157,10 +1277,13 @@ fn main() {
         all.0 += comparison.answers();
         all.1 += comparison.rare.answers;
         all.2 += comparison.differences;
+        bare.0 += comparison.bare.texts;
+        bare.1 += comparison.bare.words;
     };
     println!("seed {SEED}");
     part("every short sentence", &mut |c| compare_short(c));
     part("every short sentence with rare characters", &mut |c| compare_rare(c));
+    part("every short sentence with bare words", &mut |c| compare_bare(c));
     part("small books by chance", &mut |c| compare_by_chance(c, 3000, 12, 30, &mut otherwise));
     part("larger books by chance", &mut |c| compare_by_chance(c, 40, 3000, 200, &mut otherwise));
     otherwise.report("every tenth book by chance");
@@ -1172,6 +1295,7 @@ fn main() {
         }
         _ => println!("real dictionary and text: not given, skipped"),
     }
+    println!("{} texts with {} bare words, each filled in with 1 for the Rust", bare.0, bare.1);
     println!("{} answers compared, {} of them with Extensions G, H and I; {} differences", all.0, all.1, all.2);
     exit(if all.2 == 0 { 0 } else { 1 });
 }

@@ -42,22 +42,18 @@ impl Checked {
         let line = std::str::from_utf8(line).expect("a line that was loaded is UTF-8");
         let mut fields = line.split_whitespace();
         let Some(word) = fields.next() else { return Ok(()) };
-        let frequency = fields.next().map(|field| field.parse().expect("a frequency that was loaded is a number"));
-        match frequency {
-            None => {
-                self.warn(out, place, format!("{word} has no frequency, which counts as 0: every other word is likelier"))?
-            }
-            Some(0) => self.warn(
+        // A word without a frequency counts 1.
+        let frequency = fields.next().map_or(1, |field| field.parse().expect("a frequency that was loaded is a number"));
+        if frequency == 0 {
+            self.warn(
                 out,
                 place,
                 format!("{word} has the frequency 0: that does not remove it, and every other word is likelier"),
-            )?,
-            Some(_) => {}
+            )?;
         }
         if let Some(message) = disappointing(word) {
             self.warn(out, place, message)?;
         }
-        let frequency = frequency.unwrap_or(0);
         let earlier = self.seen.insert(word.to_owned(), Seen { place: place.to_owned(), frequency });
         match earlier {
             Some(seen) if seen.frequency != frequency => {

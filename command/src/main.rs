@@ -26,7 +26,7 @@ struct Command {
 enum Task {
     /// Says line by line what is refused of a vocabulary, and what is loaded but will disappoint
     Check {
-        /// Vocabularies: a word, its frequency and anything more on each line
+        /// Vocabularies: a word, its frequency (1 if there is none) and anything more on each line
         #[arg(value_name = "FILE", required = true)]
         files: Vec<PathBuf>,
     },

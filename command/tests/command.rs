@@ -63,6 +63,9 @@ fn words_and_vocabularies_are_given() {
     let files = ["-d", rooms.to_str().unwrap(), "-d", devices.to_str().unwrap()];
     // The house's own words are not there then.
     prints(&run(&[&files[..], &["打开客厅鱼缸"]].concat()), 0, "打 / 开 / 客厅 / 鱼缸\n");
+    // Words without frequencies will do.
+    let bare = vocabulary("bare.txt", "打\n打开\r\n灯\n客厅灯".as_bytes());
+    prints(&run(&["-d", bare.to_str().unwrap(), "打开客厅灯"]), 0, "打开 / 客厅灯\n");
     let broken = vocabulary("broken.txt", "灯 1\n门 x\n".as_bytes());
     let output = run(&["-d", broken.to_str().unwrap(), "灯"]);
     prints(&output, 1, "");
@@ -107,8 +110,9 @@ fn ties_are_explained() {
 
 #[test]
 fn a_vocabulary_is_checked() {
-    let mut text =
-        "\u{FEFF}灯 5\nＴＶ 3\n灯１ 2\n灯（左） 1\n空调·主卧 4\nA/C 4\nカーテン 5\n灯\n书房 0\n书房 7\n".as_bytes().to_vec();
+    let mut text = "\u{FEFF}灯 5\nＴＶ 3\n灯１ 2\n灯（左） 1\n空调·主卧 4\nA/C 4\nカーテン 5\n灯\n书房 0\n书房 7\n书房\n"
+        .as_bytes()
+        .to_vec();
     text.extend(b"\xB5\xC6 5\n\xE9\x97\xA8 x\nTV 9");
     let file = vocabulary("owner.txt", &text);
     let output = run(&["check", file.to_str().unwrap()]);
@@ -123,13 +127,13 @@ owner.txt:4: warning: 灯（左） is never found: no word of a cut has （ (U+F
 owner.txt:5: warning: 空调·主卧 is never found: no word of a cut has · (U+00B7) in it
 owner.txt:6: warning: A/C is never found: no word of a cut has / (U+002F) in it
 owner.txt:7: warning: カーテン is never found: no word of a cut has カ (U+30AB) in it
-owner.txt:8: warning: 灯 has no frequency, which counts as 0: every other word is likelier
 owner.txt:9: warning: 书房 has the frequency 0: that does not remove it, and every other word is likelier
 owner.txt:10: warning: 书房 stands at owner.txt:9 too, with the frequency 0: the later one, 7, counts
-owner.txt:11: refused: not UTF-8: saved as GBK?
-owner.txt:12: refused: its frequency is no number from 0 to 4294967295
+owner.txt:11: warning: 书房 stands at owner.txt:10 too, with the frequency 7: the later one, 1, counts
+owner.txt:12: refused: not UTF-8: saved as GBK?
+owner.txt:13: refused: its frequency is no number from 0 to 4294967295
 2 refused, 11 warnings
-10 words, total 40
+10 words, total 35
 sizes: 65536 root entries, 32 slots (17 taken), 10 records: 524952 bytes
 ";
     assert_eq!((output.status.code(), said.as_str()), (Some(1), expected));

@@ -13,7 +13,7 @@ pub enum Error {
     Malformed = 3,
     /// A frequency malformed or over 4,294,967,295.
     BadFrequency = 4,
-    /// The total would pass 4,294,967,295.
+    /// The total would pass 4,294,967,295, by a word without a frequency too, which adds 1.
     TotalTooLarge = 5,
     /// A new word, and every record is taken.
     RecordsFull = 6,

@@ -143,7 +143,8 @@ impl Dictionary {
         error::result_of(calls::prepare(&mut self.areas))
     }
 
-    /// Loads a dictionary text, and returns its number of lines. A refused line ends the load; the lines before it stay.
+    /// Loads a dictionary text, and returns its number of lines. A refused line ends the load; the lines before it stay. A line
+    /// without a frequency gives its word the frequency 1.
     pub fn load(&mut self, text: impl AsRef<[u8]>) -> Result<usize, LoadError> {
         let loaded = calls::load(&mut self.areas, text.as_ref());
         match error::result_of(loaded.number) {

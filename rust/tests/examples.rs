@@ -1,4 +1,4 @@
-//! Document 01's examples, and one of document 02's note 9.
+//! Document 01's examples, and those of document 02's notes 7 and 9.
 mod common;
 use common::*;
 use tongsvale::{Dictionary, Error, Scratch, Token, TokenizeMode};
@@ -41,6 +41,24 @@ fn at_total_0_the_shortest_word_wins() {
     assert_eq!(cut(&dictionary, "甲乙"), (0, vec!["甲", "乙"]));
     assert_eq!(dictionary.add_word("丙".as_bytes(), 1), Ok(1));
     assert_eq!(cut(&dictionary, "甲乙"), (0, vec!["甲乙"]));
+}
+
+#[test]
+fn bare_words_count_1() {
+    // An absent frequency means 1 with note 7 of document 02. At total 0 the cut would be 打, 开, 灯.
+    let mut dictionary = loaded(1, 16, 4, "打\n打开\r\n灯\u{3000}\n");
+    for word in ["打", "打开", "灯"] {
+        assert_eq!(dictionary.lookup(word), Ok(Some(1)), "{word}");
+    }
+    assert_eq!(dictionary.areas().head[3], 3);
+    assert_eq!(cut(&dictionary, "打开灯"), (0, vec!["打开", "灯"]));
+    // A held word gets 1 too, and a 0 that is written stays.
+    assert_eq!(dictionary.load("灯 5\n灯\n打 0\n"), Ok(3));
+    assert_eq!((dictionary.lookup("灯"), dictionary.lookup("打")), (Ok(Some(1)), Ok(Some(0))));
+    assert_eq!(dictionary.areas().head[3], 2);
+    // At the greatest total there is no room for 1 more.
+    assert_eq!(dictionary.add_word("灯", 4_294_967_294), Ok(4_294_967_294));
+    assert_eq!(unchanged(&mut dictionary, |d| d.load("打开\n门\n")), at_line(2, Error::TotalTooLarge));
 }
 
 #[test]
@@ -131,7 +149,7 @@ fn frequencies() {
     assert_eq!(unchanged(&mut dictionary, |d| d.load(b"a +")), at_line(1, Error::BadFrequency));
     assert_eq!(dictionary.load(b"a +7\nb\nc 007 more 8"), Ok(3));
     assert_eq!(dictionary.lookup(b"a"), Ok(Some(7)));
-    assert_eq!(dictionary.lookup(b"b"), Ok(Some(0)));
+    assert_eq!(dictionary.lookup(b"b"), Ok(Some(1)));
     assert_eq!(dictionary.lookup(b"c"), Ok(Some(7)));
 }
 

@@ -197,6 +197,7 @@ fn number_5() {
     }
     assert_eq!(unchanged(&mut dictionary, |d| d.add_word(b"b", 6)), Err(Error::TotalTooLarge));
     assert_eq!(unchanged(&mut dictionary, |d| d.load(b"b 6")), at_line(1, Error::TotalTooLarge));
+    assert_eq!(unchanged(&mut dictionary, |d| d.load(b"c")), at_line(1, Error::TotalTooLarge));
     // The earlier line stays: it takes b's 5 off the total.
     assert_eq!(dictionary.load(b"b 0\nc 5\nd 1\n"), at_line(3, Error::TotalTooLarge));
     assert_eq!(dictionary.areas().head, [3, 3, 4, 4_294_967_295]);

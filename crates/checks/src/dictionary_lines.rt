@@ -68,10 +68,12 @@ fn print_line(line: &[u8]) {
     print(b"\n");
 }
 
-// White space of one, two and three bytes around the fields; a third field; no second one; blank lines; what is refused.
+// White space of one, two and three bytes around the fields; a third field; no second one, which means 1; blank lines; what is refused.
 fn print_lines() {
     print_line(b"\xE7\x94\xB2 5");
     print_line(b"\xE7\x94\xB2");
+    print_line(b"\xE7\x94\xB2\xE3\x80\x80\r");
+    print_line(b"\xE7\x94\xB2 0");
     print_line(b" \t\xE7\x94\xB2  5\t n x");
     print_line(b"\xE3\x80\x80\xE7\x94\xB2\xE3\x80\x805\xE3\x80\x80");
     print_line(b"a\xC2\x85+7");

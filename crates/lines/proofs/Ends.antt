@@ -15,7 +15,7 @@ use lib.Seq.{drop-cons, drop-drop}
 use Rattle.lines.specs.Lines.{onto, linesOf, takeWhile, lineEnd}
 
 -- the test for a byte within a line
-abbrev within : ℕ → Bool
+abbrev pub within : ℕ → Bool
 within b = not (eqb b 0x0A)
 
 module _ (s : List ℕ) (at : ℕ) where
@@ -33,11 +33,11 @@ module _ (s : List ℕ) (at : ℕ) where
 
 -- ---- a text's lines from a position on
 
-line-ends : (b : ℕ) (bs : List ℕ) → eqb b 0x0A ≡ true → linesOf (b ∷ bs) ≡ [] ∷ linesOf bs
+pub line-ends : (b : ℕ) (bs : List ℕ) → eqb b 0x0A ≡ true → linesOf (b ∷ bs) ≡ [] ∷ linesOf bs
 unfolding linesOf
 line-ends b bs e = rw (e, linesOf)
 
-line-goes-on : (b : ℕ) (bs : List ℕ) → eqb b 0x0A ≡ false → linesOf (b ∷ bs) ≡ onto b (linesOf bs)
+pub line-goes-on : (b : ℕ) (bs : List ℕ) → eqb b 0x0A ≡ false → linesOf (b ∷ bs) ≡ onto b (linesOf bs)
 unfolding linesOf
 line-goes-on b bs e = rw (e, linesOf)
 
@@ -58,7 +58,7 @@ lines-first b (c ∷ bs) = go (eqb b 0x0A) refl (lines-first c bs)
     go false e ih = line-goes-on b (c ∷ bs) e ∙ ap (onto b) ih ∙ rw e
 
 -- as many bytes as there are before the LF
-taken : (p : ℕ → Bool) (xs : List ℕ) → take (length (takeWhile p xs)) xs ≡ takeWhile p xs
+pub taken : (p : ℕ → Bool) (xs : List ℕ) → take (length (takeWhile p xs)) xs ≡ takeWhile p xs
 taken p [] = refl
 taken p (x ∷ xs) = go (p x) refl (taken p xs)
   where

@@ -73,7 +73,7 @@ unlike false false c e t = ap not (sym e) ∙ sym t
 
 -- ---- fields by the white space around them
 
-abbrev nonSpace : ℕ → Bool
+abbrev pub nonSpace : ℕ → Bool
 nonSpace c = not (whiteSpace c)
 
 -- the pieces after the first, by what stands from the white space on that ends it
@@ -92,7 +92,7 @@ pieces-first (c ∷ cs) = go (whiteSpace c) refl (pieces-first cs)
     go false e ih = rw (e, pieces) (ap (onto c) ih)
 
 -- white space before the fields means nothing
-fields-space : (c : ℕ) (cs : List ℕ) → whiteSpace c ≡ true → fieldsOf (c ∷ cs) ≡ fieldsOf cs
+pub fields-space : (c : ℕ) (cs : List ℕ) → whiteSpace c ≡ true → fieldsOf (c ∷ cs) ≡ fieldsOf cs
 unfolding fieldsOf pieces
 fields-space c cs e = rw (e, pieces)
 
@@ -116,14 +116,14 @@ fields-after (c ∷ cs) = go (whiteSpace c) refl (fields-after cs)
     go false e ih = rw e ih
 
 -- a text that begins with no white space begins with its first field
-fields-first : (c : ℕ) (cs : List ℕ) → whiteSpace c ≡ false → fieldsOf (c ∷ cs) ≡ takeWhile nonSpace (c ∷ cs) ∷ fieldsOf (dropWhile nonSpace (c ∷ cs))
+pub fields-first : (c : ℕ) (cs : List ℕ) → whiteSpace c ≡ false → fieldsOf (c ∷ cs) ≡ takeWhile nonSpace (c ∷ cs) ∷ fieldsOf (dropWhile nonSpace (c ∷ cs))
 fields-first c cs e = by-pieces ∙ rw e (ap (λ (l : List (List ℕ)). (c ∷ takeWhile nonSpace cs) ∷ l) (fields-after cs))
   where
     by-pieces : fieldsOf (c ∷ cs) ≡ nonEmpty (takeWhile nonSpace (c ∷ cs) ∷ piecesAfter (dropWhile nonSpace (c ∷ cs)))
     by-pieces = unfold fieldsOf in ap nonEmpty (pieces-first (c ∷ cs))
 
 -- what is left after white space begins with none
-begins : (cs ds : List ℕ) (d : ℕ) → dropWhile whiteSpace cs ≡ d ∷ ds → whiteSpace d ≡ false
+pub begins : (cs ds : List ℕ) (d : ℕ) → dropWhile whiteSpace cs ≡ d ∷ ds → whiteSpace d ≡ false
 begins [] ds d e = let z : _≡_ {A = ℕ} 0 1 = cc in absurd (omega arith)
 begins (c ∷ cs) ds d e = go (whiteSpace c) refl (begins cs ds d)
   where

@@ -25,7 +25,7 @@ use Rattle.lines.proofs.Ascii.{frequency-text}
 use Rattle.lines.proofs.Fields.{FieldFound, field-at, none-at, is-some}
 
 -- the characters of a line that is UTF-8
-counted : (o : Option (List ℕ)) (n : ℕ) → Chars n ≡ countOf o → (cs : List ℕ) × (o ≡ some cs)
+pub counted : (o : Option (List ℕ)) (n : ℕ) → Chars n ≡ countOf o → (cs : List ℕ) × (o ≡ some cs)
 counted none n e = let z : _≡_ {A = ℕ} 0 1 = cc in absurd (omega arith)
 counted (some cs) n e = (cs, refl)
 
@@ -84,10 +84,10 @@ module _ (line : List ℕ) (count : ℕ) (known : Chars count ≡ countOf (chars
     entry-at : (n : ℕ) → linePlaced (byteLength (takeWhile whiteSpace cs)) (entry (first .word) n) ≡ Entry a b n
     entry-at n = placed-at _ _ a b n (first .starts ∙ zero-add (byteLength (takeWhile whiteSpace cs))) (first .ends)
 
-    pub line-word : Missing ≡ fieldAt b (charsFrom line b) → Entry a b 0 ≡ lineOf line
+    pub line-word : Missing ≡ fieldAt b (charsFrom line b) → Entry a b 1 ≡ lineOf line
     line-word g =
         let none-after : fieldsOf (first .rest) ≡ [] = none-at line b (first .rest) (first .after) (first .inside) (sym g) in
-        sym (by-fields (first .word ∷ []) (first .fields ∙ ap (λ (l : List (List ℕ)). first .word ∷ l) none-after) ∙ entry-at 0)
+        sym (by-fields (first .word ∷ []) (first .fields ∙ ap (λ (l : List (List ℕ)). first .word ∷ l) none-after) ∙ entry-at 1)
 
     module _ (c d : ℕ) (g : At c d ≡ fieldAt b (charsFrom line b)) where
       second : FieldFound line (first .rest) b c d

@@ -100,10 +100,10 @@ abbrev pub withFrequency : List ℕ → Frequency → Meaning
 withFrequency w Frequency.Malformed = badFrequency
 withFrequency w (Value n) = entry w n
 
--- "Field 1 is the word, field 2 its frequency; absent means 0."
+-- "Field 1 is the word, field 2 its frequency", and document 02, note 7: "An absent frequency now means 1."
 abbrev pub meaningOfFields : List (List ℕ) → Meaning
 meaningOfFields [] = blank
-meaningOfFields (w ∷ []) = entry w 0
+meaningOfFields (w ∷ []) = entry w 1
 meaningOfFields (w ∷ f ∷ fs) = withFrequency w (frequencyOf f)
 
 abbrev pub meaningOfChars : Option (List ℕ) → Meaning

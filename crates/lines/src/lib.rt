@@ -123,7 +123,7 @@ pub fn parse_frequency(field: &[u8]) -> Frequency
     }
 }
 
-// A line by its fields: the first is the word, the second its frequency, and any others are ignored.
+// A line by its fields: the first is the word, the second its frequency, which is 1 where it is absent, and any others are ignored.
 pub fn parse_line(line: &[u8]) -> Line
     ensures { λ r. ⌜ r ≡ lineOf (now (line .entry)) ⌝ }
 {
@@ -137,7 +137,7 @@ pub fn parse_line(line: &[u8]) -> Line
         return Line::Blank;
     };
     let Field::At(from, to) = next_field(line, end) else {
-        return Line::Entry(start, end, 0);
+        return Line::Entry(start, end, 1);
     };
     match parse_frequency(&line[from..to]) {
         Frequency::Malformed => Line::BadFrequency,

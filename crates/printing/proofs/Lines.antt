@@ -77,7 +77,7 @@ no-frame-put out at =
     record { area = rw (one, two); ends = refl }
 
 -- what is written after something
-after : (out xs out′ ys : List ℕ) (at at′ : ℕ) → out′ ≡ sets out at xs → at′ ≡ at + length xs → sets out′ at′ ys ≡ sets out at (xs ++ ys)
+pub after : (out xs out′ ys : List ℕ) (at at′ : ℕ) → out′ ≡ sets out at xs → at′ ≡ at + length xs → sets out′ at′ ys ≡ sets out at (xs ++ ys)
 after out xs out′ ys at at′ e place = rw (e, place) (sets-append out at xs ys)
 
 -- number, count, numbers and the line's end

@@ -99,6 +99,18 @@ append-scalars : (xs ys : List ℕ) → Scalars (xs ++ ys) → Scalars xs × Sca
 append-scalars [] ys h = (tt, h)
 append-scalars (x ∷ xs) ys h = let p = append-scalars xs ys (h .1) in ((h .0, p .0), p .1)
 
+scalars-append : (xs ys : List ℕ) → Scalars xs → Scalars ys → Scalars (xs ++ ys)
+scalars-append [] ys first second = second
+scalars-append (x ∷ xs) ys first second = (first .0, scalars-append xs ys (first .1) second)
+
+-- the characters of two texts, one after the other
+pub chars-append : (bs ds xs ys : List ℕ) → charsOf bs ≡ some xs → charsOf ds ≡ some ys → charsOf (bs ++ ds) ≡ some (xs ++ ys)
+chars-append bs ds xs ys e f =
+    let first = texts-only-of-encodings bs xs e in
+    let second = texts-only-of-encodings ds ys f in
+    let joined : bs ++ ds ≡ encodeText (xs ++ ys) = sym (append-text xs ys ∙ rw (first .1, second .1)) in
+    ap charsOf joined ∙ texts-of-encodings (xs ++ ys) (scalars-append xs ys (first .0) (second .0))
+
 pub byte-length-cons : (c : ℕ) (cs : List ℕ) → byteLength (c ∷ cs) ≡ length (encode c) + byteLength cs
 unfolding byteLength
 byte-length-cons c cs = length-append (encode c) (encodeText cs)
