@@ -1,4 +1,4 @@
-/* Tongsvale 0.1.0: Chinese sentences into words. The calls of libtongsvale.a (rt staticlib tongsvale), for C11 and C++ on
+/* Tongsvale 0.2.0: Chinese sentences into words. The calls of libtongsvale.a (rt staticlib tongsvale), for C11 and C++ on
  * x86-64.
  *
  * In short
@@ -28,10 +28,10 @@
  * Threads: lookups and cuts only read the book, so several threads may cut with one book at once, each with a work area of
  * its own, while none prepares, loads or adds.
  *
- * Stack: a load took 5,128 bytes below the caller's frame, its arguments with them; 4,096 of these hold the table of
- * logarithms. Any other call took at most 904 (add 904, the cuts 808, lookup 504, cut_all 360, prepare 152). Keep 8,192 free
+ * Stack: a load took 4,952 bytes below the caller's frame, its arguments with them; 4,096 of these hold the table of
+ * logarithms. Any other call took at most 760 (add 760, the cuts 712, lookup 392, cut_all 328, prepare 104). Keep 8,192 free
  * for a load and 2,048 for the other calls. This was measured on one build, with a caller compiled by gcc -O2 (by -O0 it was
- * 5,240 and 1,080), and is not proved. Nothing in the library calls itself, so it does not grow with the input.
+ * 5,048 and 968), and is not proved. Nothing in the library calls itself, so it does not grow with the input.
  *
  * Time: at each character of a sentence a cut follows the longest beginning of a stored word that stands there, with a probe
  * for each character of it: a few slots as a rule, all of them at worst. So it takes up to the sentence's characters times
@@ -58,11 +58,13 @@
  * A book
  *
  *   head           4 numbers: records used, slots used, next node, total of the frequencies
- *   root table     root_children, root_words: 1 to 65,536 entries
- *   slots          keys, children, words: a power of two from 16 to 4,194,304
- *   records        frequencies, logarithms: 1 to 1,048,576
- * The areas of one part are equally long. tongsvale_prepare makes a book empty; whoever changes its areas by hand afterwards
- * may damage it.
+ *   roots          the root table: 1 to 65,536 entries, a link each
+ *   slots          a power of two from 16 to 4,194,304, each two numbers: a key, and behind it a link
+ *   records        1 to 1,048,576: a word's frequency in the lower 32 bits
+ *   logarithms     as many as there are records
+ * A link has a child in its lower 32 bits, and in the upper 32 the number of a word's record plus one; 0 there is no word. The
+ * upper 32 bits of a record are kept for later: a new word has 0 there, a new frequency leaves them as they are, and nothing
+ * else minds them. tongsvale_prepare makes a book empty; whoever changes its areas by hand afterwards may damage it.
  *
  * What a vocabulary needs: each word takes one record. Each character of a word takes a slot, unless another word that is held
  * begins with the same characters up to it; and a first character below the root table's length takes none. Slots are filled
@@ -72,9 +74,11 @@
  * to 19,968 entries serve no character of the main Han block (U+4E00..9FFF), 40,960 serve all of it, and 65,536 the whole
  * Basic Multilingual Plane.
  *
- * A book holds no pointers. Its areas may be kept as bytes and lent again, with the same lengths, on the same kind of machine.
- * Bytes that changed meanwhile do no harm to memory, but they are met as 8 or taken for other words, so keep a checksum beside
- * them. A book in read-only memory can be looked up and cut with: cast its const away.
+ * A book holds no pointers. Its areas may be kept as bytes and lent again, with the same lengths, on the same kind of machine,
+ * to a library of the same TONGSVALE_ABI. A book that was kept with another number, or before there was one, cannot be lent
+ * again, since its bytes mean something else: load its vocabulary anew. Bytes of another number, or that changed meanwhile, do
+ * no harm to memory, but they are met as 8 or taken for other words, so keep the number and a checksum beside them. A book in
+ * read-only memory can be looked up and cut with: cast its const away.
  */
 #ifndef TONGSVALE_H
 #define TONGSVALE_H
@@ -90,11 +94,40 @@
 extern "C" {
 #endif
 
-/* The version of this header; the archive carries none. */
+/* The version of this header; the archive has none, but the interface's number below. */
 #define TONGSVALE_VERSION_MAJOR 0
-#define TONGSVALE_VERSION_MINOR 1
+#define TONGSVALE_VERSION_MINOR 2
 #define TONGSVALE_VERSION_PATCH 0
-#define TONGSVALE_VERSION "0.1.0"
+#define TONGSVALE_VERSION "0.2.0"
+
+/* ---- the interface's number
+ *
+ * It goes up with every change of an area, a token or a call. The archive defines a function that has the number in its name
+ * and returns it, and all that includes this header refers to that function. So what was compiled with a header of another
+ * number, and may lend areas that are too short, does not link: it has an undefined reference to tongsvale_abi_ with its own
+ * number. What was compiled before 0.2.0 refers to no number and still links: compile it anew. */
+#define TONGSVALE_ABI 2
+
+#define TONGSVALE_ABI_PASTED(number) tongsvale_abi_##number
+#define TONGSVALE_ABI_NAMED(number) TONGSVALE_ABI_PASTED(number)
+#define TONGSVALE_ABI_FUNCTION TONGSVALE_ABI_NAMED(TONGSVALE_ABI)
+uint32_t TONGSVALE_ABI_FUNCTION(void);
+
+/* The reference. `used` keeps a compiler from dropping it, and `retain`, which gcc has from 11 on and clang from 13, a linker
+ * with --gc-sections; with an older compiler and that option it is lost. Where the assembler does not know `retain` there would
+ * be a warning. */
+#if defined(__has_attribute)
+#if __has_attribute(retain)
+#define TONGSVALE_KEPT __attribute__((used, retain))
+#endif
+#endif
+#ifndef TONGSVALE_KEPT
+#define TONGSVALE_KEPT __attribute__((used))
+#endif
+#pragma GCC diagnostic push
+#pragma GCC diagnostic ignored "-Wattributes"
+static TONGSVALE_KEPT uint32_t (*const tongsvale_abi)(void) = TONGSVALE_ABI_FUNCTION;
+#pragma GCC diagnostic pop
 
 /* ---- limits */
 
@@ -108,6 +141,8 @@ extern "C" {
 #define TONGSVALE_GREATEST_TOTAL UINT32_C(4294967295)
 
 #define TONGSVALE_HEAD_LENGTH 4
+/* The numbers of a slot: a key and a link. */
+#define TONGSVALE_SLOT_WIDTH 2
 /* The numbers of a token: start and end in characters, then in bytes, then in UTF-16 code units. */
 #define TONGSVALE_TOKEN_WIDTH 6
 
@@ -132,9 +167,9 @@ extern "C" {
 #define TONGSVALE_SEARCH_PLACES(characters) ((size_t)(characters) * 7 / 3)
 #define TONGSVALE_CUT_ALL_PLACES(characters, nested) ((size_t)(characters) * (size_t)(nested))
 
-/* Bytes of a book: the head, 8 an entry of the root table, 16 a slot, 12 a record. */
+/* Bytes of a book: the head, 8 an entry of the root table, 16 a slot, 16 a record with its logarithm. */
 #define TONGSVALE_BOOK_BYTES(roots, slots, records) \
-    (32 + (size_t)(roots) * 8 + (size_t)(slots) * 16 + (size_t)(records) * 12)
+    (32 + (size_t)(roots) * 8 + (size_t)(slots) * 16 + (size_t)(records) * 16)
 /* Bytes of the work area of so many characters, of so many edge places, and of so many token places. cut_all needs only 12 of
  * each 36 bytes of the first, and no edge area. */
 #define TONGSVALE_WORK_BYTES(characters) (((size_t)(characters) + 1) * 36)
@@ -145,8 +180,8 @@ extern "C" {
 
 enum tongsvale_outcome {
     TONGSVALE_DONE = 0,
-    /* A part of the book outside its sizes, a token area that is not a whole number of tokens, or no such mode; nothing is
-     * changed. */
+    /* A part of the book outside its sizes, slots of an odd length, records and logarithms of unlike length, a token area that
+     * is not a whole number of tokens, or no such mode; nothing is changed. */
     TONGSVALE_BAD_AREAS = 1,
     /* A text over 16,777,215 bytes; nothing is changed. */
     TONGSVALE_TOO_LONG = 2,
@@ -220,23 +255,20 @@ struct tongsvale_token {
 
 /* ---- what is lent */
 
-/* A book; lengths are in elements. Fill it with areas of your own, or declare it by TONGSVALE_STATIC_BOOK. */
+/* A book. Fill it with areas of your own, or declare it by TONGSVALE_STATIC_BOOK. */
 struct tongsvale_book {
     uint64_t *head; /* TONGSVALE_HEAD_LENGTH */
-    size_t root_length;
-    uint32_t *root_children;
-    int32_t *root_words;
-    size_t slot_length;
-    uint64_t *keys;
-    uint32_t *children;
-    int32_t *words;
-    size_t record_length;
-    uint32_t *frequencies;
-    double *logarithms;
+    size_t root_count;
+    uint64_t *roots;
+    size_t slot_count;
+    uint64_t *slots; /* TONGSVALE_SLOT_WIDTH for each slot */
+    size_t record_count;
+    uint64_t *records;
+    double *logarithms; /* one for each record */
 };
 
-/* What a cut works in and writes its tokens to. What it holds at first plays no part; afterwards the tokens alone have a
- * meaning. cut_all takes chars, offsets and tokens, and asks nothing of the others. */
+/* What a cut works in and writes its tokens to; lengths are in elements. What it holds at first plays no part; afterwards the
+ * tokens alone have a meaning. cut_all takes chars, offsets and tokens, and asks nothing of the others. */
 struct tongsvale_work {
     size_t work_length; /* at least the sentence's characters + 1 */
     uint32_t *chars;
@@ -244,7 +276,7 @@ struct tongsvale_work {
     size_t *starts; /* places in the edge area */
     double *scores;
     uint32_t *ends;
-    uint32_t *records;
+    uint32_t *route_records;
     size_t edge_length; /* TONGSVALE_EDGES */
     uint32_t *edge_ends;
     uint32_t *edge_records;
@@ -252,19 +284,15 @@ struct tongsvale_work {
     uint32_t *tokens;
 };
 
-/* Declares a book of this name with static areas, which are called name_head, name_keys and so on. */
+/* Declares a book of this name with static areas, which are called name_head, name_roots and so on. */
 #define TONGSVALE_STATIC_BOOK(name, roots, slots, records) \
     static uint64_t name##_head[TONGSVALE_HEAD_LENGTH]; \
-    static uint32_t name##_root_children[roots]; \
-    static int32_t name##_root_words[roots]; \
-    static uint64_t name##_keys[slots]; \
-    static uint32_t name##_children[slots]; \
-    static int32_t name##_words[slots]; \
-    static uint32_t name##_frequencies[records]; \
+    static uint64_t name##_roots[roots]; \
+    static uint64_t name##_slots[(slots) * TONGSVALE_SLOT_WIDTH]; \
+    static uint64_t name##_records[records]; \
     static double name##_logarithms[records]; \
     static struct tongsvale_book name = { \
-        name##_head, (roots), name##_root_children, name##_root_words, (slots), name##_keys, name##_children, name##_words, \
-        (records), name##_frequencies, name##_logarithms }
+        name##_head, (roots), name##_roots, (slots), name##_slots, (records), name##_records, name##_logarithms }
 
 /* The same for the work area of sentences of up to so many characters, with so many edges and token places. */
 #define TONGSVALE_STATIC_WORK(name, characters, edges, places) \
@@ -273,13 +301,13 @@ struct tongsvale_work {
     static size_t name##_starts[(characters) + 1]; \
     static double name##_scores[(characters) + 1]; \
     static uint32_t name##_ends[(characters) + 1]; \
-    static uint32_t name##_records[(characters) + 1]; \
+    static uint32_t name##_route_records[(characters) + 1]; \
     static uint32_t name##_edge_ends[edges]; \
     static uint32_t name##_edge_records[edges]; \
     static uint32_t name##_tokens[(places) * TONGSVALE_TOKEN_WIDTH]; \
     static struct tongsvale_work name = { \
-        (characters) + 1, name##_chars, name##_offsets, name##_starts, name##_scores, name##_ends, name##_records, \
-        (edges), name##_edge_ends, name##_edge_records, (places) * TONGSVALE_TOKEN_WIDTH, name##_tokens }
+        (characters) + 1, name##_chars, name##_offsets, name##_starts, name##_scores, name##_ends, \
+        name##_route_records, (edges), name##_edge_ends, name##_edge_records, (places) * TONGSVALE_TOKEN_WIDTH, name##_tokens }
 
 /* The token i of the work area, which is below the count that the cut returned. */
 static inline struct tongsvale_token tongsvale_token_at(const struct tongsvale_work *work, size_t i) {
@@ -293,16 +321,13 @@ static inline struct tongsvale_token tongsvale_token_at(const struct tongsvale_w
  * An area, here a slice, is two parameters, a pointer and a number of elements (not bytes). The wrappers at the end make these
  * calls with a struct tongsvale_book and a struct tongsvale_work; what is said here holds for them. */
 
-/* Makes an empty book, whatever the areas held: all zeros, next node 1, every word number -1. Returns 0, or 1 with
- * everything unchanged. */
+/* Makes an empty book, whatever the areas held: all zeros, but for the next node, which is 1. Returns 0, or 1 with everything
+ * unchanged. */
 uint32_t tongsvale_prepare(
     uint64_t *head, size_t head_length,
-    uint32_t *root_children, size_t root_children_length,
-    int32_t *root_words, size_t root_words_length,
-    uint64_t *keys, size_t keys_length,
-    uint32_t *children, size_t children_length,
-    int32_t *words, size_t words_length,
-    uint32_t *frequencies, size_t frequencies_length,
+    uint64_t *roots, size_t roots_length,
+    uint64_t *slots, size_t slots_length,
+    uint64_t *records, size_t records_length,
     double *logarithms, size_t logarithms_length);
 
 /* Loads a dictionary text into the book. A line ends at LF or at the text's end, its fields are split at Unicode White_Space:
@@ -313,12 +338,9 @@ uint32_t tongsvale_prepare(
  * has fewer empty slots or nodes than it should. */
 struct tongsvale_load_result tongsvale_load(
     uint64_t *head, size_t head_length,
-    uint32_t *root_children, size_t root_children_length,
-    int32_t *root_words, size_t root_words_length,
-    uint64_t *keys, size_t keys_length,
-    uint32_t *children, size_t children_length,
-    int32_t *words, size_t words_length,
-    uint32_t *frequencies, size_t frequencies_length,
+    uint64_t *roots, size_t roots_length,
+    uint64_t *slots, size_t slots_length,
+    uint64_t *records, size_t records_length,
     double *logarithms, size_t logarithms_length,
     const uint8_t *text, size_t text_length);
 
@@ -327,12 +349,9 @@ struct tongsvale_load_result tongsvale_load(
  * to 8, tested in the order 1, 2, 3, empty word, 4, 8, 5, 6, 7, and last 8 as in a load. */
 struct tongsvale_add_result tongsvale_add(
     uint64_t *head, size_t head_length,
-    uint32_t *root_children, size_t root_children_length,
-    int32_t *root_words, size_t root_words_length,
-    uint64_t *keys, size_t keys_length,
-    uint32_t *children, size_t children_length,
-    int32_t *words, size_t words_length,
-    uint32_t *frequencies, size_t frequencies_length,
+    uint64_t *roots, size_t roots_length,
+    uint64_t *slots, size_t slots_length,
+    uint64_t *records, size_t records_length,
     double *logarithms, size_t logarithms_length,
     const uint8_t *word, size_t word_length,
     uint64_t frequency);
@@ -340,19 +359,16 @@ struct tongsvale_add_result tongsvale_add(
 /* The frequency of a word. Nothing is written. Numbers 0, 1, 2, 3 and 8, tested in the order 1, 2, 3, empty word (absent), 8. */
 struct tongsvale_lookup_result tongsvale_lookup(
     const uint64_t *head, size_t head_length,
-    const uint32_t *root_children, size_t root_children_length,
-    const int32_t *root_words, size_t root_words_length,
-    const uint64_t *keys, size_t keys_length,
-    const uint32_t *children, size_t children_length,
-    const int32_t *words, size_t words_length,
-    const uint32_t *frequencies, size_t frequencies_length,
+    const uint64_t *roots, size_t roots_length,
+    const uint64_t *slots, size_t slots_length,
+    const uint64_t *records, size_t records_length,
     const double *logarithms, size_t logarithms_length,
     const uint8_t *word, size_t word_length);
 
 /* Cuts a sentence into words: the best route through each block.
  *
- *   work area      chars, offsets, starts, scores, ends, records: each at least the sentence's characters + 1; it counts as
- *                  its shortest slice
+ *   work area      chars, offsets, starts, scores, ends, route_records: each at least the sentence's characters + 1; it
+ *                  counts as its shortest slice
  *   edge area      edge_ends, edge_records: a place for each held word that starts anywhere in a block, for the block that
  *                  has the most (TONGSVALE_EDGES); it counts as its shortest slice
  *   token area     tokens: TONGSVALE_TOKEN_WIDTH numbers a token; as many tokens as the sentence has characters always suffice
@@ -363,12 +379,9 @@ struct tongsvale_lookup_result tongsvale_lookup(
  * Numbers 0, 1, 2, 3, 8, 9, 10, 11: first 1, 2, 3, 9 and a damaged head's 8; then block by block 8 or 10, then 11. */
 struct tongsvale_cut_result tongsvale_cut(
     const uint64_t *head, size_t head_length,
-    const uint32_t *root_children, size_t root_children_length,
-    const int32_t *root_words, size_t root_words_length,
-    const uint64_t *keys, size_t keys_length,
-    const uint32_t *children, size_t children_length,
-    const int32_t *words, size_t words_length,
-    const uint32_t *frequencies, size_t frequencies_length,
+    const uint64_t *roots, size_t roots_length,
+    const uint64_t *slots, size_t slots_length,
+    const uint64_t *records, size_t records_length,
     const double *logarithms, size_t logarithms_length,
     const uint8_t *sentence, size_t sentence_length,
     uint32_t *chars, size_t chars_length,
@@ -376,7 +389,7 @@ struct tongsvale_cut_result tongsvale_cut(
     size_t *starts, size_t starts_length,
     double *scores, size_t scores_length,
     uint32_t *ends, size_t ends_length,
-    uint32_t *records, size_t records_length,
+    uint32_t *route_records, size_t route_records_length,
     uint32_t *edge_ends, size_t edge_ends_length,
     uint32_t *edge_records, size_t edge_records_length,
     uint32_t *tokens, size_t tokens_length);
@@ -387,12 +400,9 @@ struct tongsvale_cut_result tongsvale_cut(
  * characters, rounded down, always suffice. 11 may come in the middle of a word's parts and words. */
 struct tongsvale_cut_result tongsvale_cut_for_search(
     const uint64_t *head, size_t head_length,
-    const uint32_t *root_children, size_t root_children_length,
-    const int32_t *root_words, size_t root_words_length,
-    const uint64_t *keys, size_t keys_length,
-    const uint32_t *children, size_t children_length,
-    const int32_t *words, size_t words_length,
-    const uint32_t *frequencies, size_t frequencies_length,
+    const uint64_t *roots, size_t roots_length,
+    const uint64_t *slots, size_t slots_length,
+    const uint64_t *records, size_t records_length,
     const double *logarithms, size_t logarithms_length,
     const uint8_t *sentence, size_t sentence_length,
     uint32_t *chars, size_t chars_length,
@@ -400,7 +410,7 @@ struct tongsvale_cut_result tongsvale_cut_for_search(
     size_t *starts, size_t starts_length,
     double *scores, size_t scores_length,
     uint32_t *ends, size_t ends_length,
-    uint32_t *records, size_t records_length,
+    uint32_t *route_records, size_t route_records_length,
     uint32_t *edge_ends, size_t edge_ends_length,
     uint32_t *edge_records, size_t edge_records_length,
     uint32_t *tokens, size_t tokens_length);
@@ -413,12 +423,9 @@ struct tongsvale_cut_result tongsvale_cut_for_search(
  * any other number is answered with 1, count 0 and nothing changed. */
 struct tongsvale_cut_result tongsvale_tokenize(
     const uint64_t *head, size_t head_length,
-    const uint32_t *root_children, size_t root_children_length,
-    const int32_t *root_words, size_t root_words_length,
-    const uint64_t *keys, size_t keys_length,
-    const uint32_t *children, size_t children_length,
-    const int32_t *words, size_t words_length,
-    const uint32_t *frequencies, size_t frequencies_length,
+    const uint64_t *roots, size_t roots_length,
+    const uint64_t *slots, size_t slots_length,
+    const uint64_t *records, size_t records_length,
     const double *logarithms, size_t logarithms_length,
     const uint8_t *sentence, size_t sentence_length,
     uint32_t mode,
@@ -427,7 +434,7 @@ struct tongsvale_cut_result tongsvale_tokenize(
     size_t *starts, size_t starts_length,
     double *scores, size_t scores_length,
     uint32_t *ends, size_t ends_length,
-    uint32_t *records, size_t records_length,
+    uint32_t *route_records, size_t route_records_length,
     uint32_t *edge_ends, size_t edge_ends_length,
     uint32_t *edge_records, size_t edge_records_length,
     uint32_t *tokens, size_t tokens_length);
@@ -440,12 +447,9 @@ struct tongsvale_cut_result tongsvale_tokenize(
  * the sentence's characters: with 打, 打开, 开, 客厅, 客厅灯, 厅灯 and 灯 held, the 5 characters of 打开客厅灯 need 7 places. */
 struct tongsvale_cut_result tongsvale_cut_all(
     const uint64_t *head, size_t head_length,
-    const uint32_t *root_children, size_t root_children_length,
-    const int32_t *root_words, size_t root_words_length,
-    const uint64_t *keys, size_t keys_length,
-    const uint32_t *children, size_t children_length,
-    const int32_t *words, size_t words_length,
-    const uint32_t *frequencies, size_t frequencies_length,
+    const uint64_t *roots, size_t roots_length,
+    const uint64_t *slots, size_t slots_length,
+    const uint64_t *records, size_t records_length,
     const double *logarithms, size_t logarithms_length,
     const uint8_t *sentence, size_t sentence_length,
     uint32_t *chars, size_t chars_length,
@@ -454,14 +458,19 @@ struct tongsvale_cut_result tongsvale_cut_all(
 
 /* ---- the wrappers */
 
+/* The length of so many slots; 1, which no call accepts, where they are too many. */
+static inline size_t tongsvale_slots_length(size_t slots) {
+    return slots <= TONGSVALE_MOST_SLOTS ? slots * TONGSVALE_SLOT_WIDTH : 1;
+}
+
 /* The areas of a book, and of the work on a sentence, as an export takes them. */
 #define TONGSVALE_BOOK_AREAS(book) \
-    (book)->head, TONGSVALE_HEAD_LENGTH, (book)->root_children, (book)->root_length, (book)->root_words, (book)->root_length, \
-    (book)->keys, (book)->slot_length, (book)->children, (book)->slot_length, (book)->words, (book)->slot_length, \
-    (book)->frequencies, (book)->record_length, (book)->logarithms, (book)->record_length
+    (book)->head, TONGSVALE_HEAD_LENGTH, (book)->roots, (book)->root_count, \
+    (book)->slots, tongsvale_slots_length((book)->slot_count), \
+    (book)->records, (book)->record_count, (book)->logarithms, (book)->record_count
 #define TONGSVALE_WORK_AREAS(work) \
     (work)->chars, (work)->work_length, (work)->offsets, (work)->work_length, (work)->starts, (work)->work_length, \
-    (work)->scores, (work)->work_length, (work)->ends, (work)->work_length, (work)->records, (work)->work_length, \
+    (work)->scores, (work)->work_length, (work)->ends, (work)->work_length, (work)->route_records, (work)->work_length, \
     (work)->edge_ends, (work)->edge_length, (work)->edge_records, (work)->edge_length, (work)->tokens, (work)->token_length
 
 /* A text as bytes; an empty one may be at any pointer, null too. */

@@ -16,6 +16,7 @@ and to see that the file is what this script says:
 
 import os
 import re
+from operator import setitem
 
 # ---- document 01's rules of a line, note 7's of document 02 for an absent frequency, and the logarithm
 
@@ -24,6 +25,8 @@ GREATEST = 4294967295
 ABSENT_MEANS = 1
 LAST_NODE = 16777215
 MINUS_INFINITY = "minus infinity"
+# A link is a child below this, and above it a word number plus one; a record is a frequency below it.
+HALF = 2**32
 
 
 def decoded(text):
@@ -78,74 +81,104 @@ class Book:
     def __init__(self, sizes):
         """Areas that nobody has prepared: sevens, and a head of zeros."""
         self.areas = [[7] * n for n in sizes]
-        self.root, self.root_words, self.keys, self.children, self.words, self.frequencies, self.logarithms = self.areas
+        self.roots, self.slots, self.records, self.logarithms = self.areas
         self.head = [0, 0, 0, 0]
 
     # -- sizes and head
 
+    def slot_count(self):
+        return len(self.slots) // 2
+
     def test_sizes(self):
-        root, root_words, keys, children, words, frequencies, logarithms = map(len, self.areas)
-        slots_allowed = keys in [2**n for n in range(4, 23)] and keys == children == words
-        if not (1 <= root <= 65536 and root == root_words and slots_allowed):
+        roots, slots, records, logarithms = map(len, self.areas)
+        if not (1 <= roots <= 65536 and slots in [2 * 2**n for n in range(4, 23)]):
             raise Refused(1)
-        if not (1 <= frequencies <= 1048576 and frequencies == logarithms):
+        if not (1 <= records <= 1048576 and records == logarithms):
             raise Refused(1)
 
     def test_head(self):
         records, slots, following, total = self.head
-        beyond = records > len(self.frequencies) or slots > len(self.keys)
-        if beyond or slots * 8 > len(self.keys) * 6 or total > GREATEST or not 1 <= following <= LAST_NODE:
+        beyond = records > len(self.records) or slots > self.slot_count()
+        if beyond or slots * 8 > self.slot_count() * 6 or total > GREATEST or not 1 <= following <= LAST_NODE:
             raise Refused(8)
+
+    # -- cells: a slot is a key and then a link, a root entry is a link
+
+    def key(self, slot):
+        return self.slots[2 * slot]
+
+    def set_key(self, slot, key):
+        self.slots[2 * slot] = key
+
+    def keys(self):
+        return self.slots[::2]
 
     # -- steps: a place is None (the root node), ("root", i) or ("slot", i)
 
+    def link(self, place):
+        kind, i = place
+        return self.roots[i] if kind == "root" else self.slots[2 * i + 1]
+
+    def set_link(self, place, link):
+        kind, i = place
+        if kind == "root":
+            self.roots[i] = link
+        else:
+            self.slots[2 * i + 1] = link
+
+    def set_child(self, place, child):
+        self.set_link(place, self.link(place) // HALF * HALF + child)
+
+    def word_number(self, place):
+        """-1 where no word ends at the place."""
+        return self.link(place) // HALF - 1
+
+    def set_word_number(self, place, n):
+        self.set_link(place, (n + 1) % HALF * HALF + self.link(place) % HALF)
+
     def node(self, place):
-        if place is None:
-            return 0
-        return (self.root if place[0] == "root" else self.children)[place[1]] % 2**24
+        return 0 if place is None else self.link(place) % 2**24
 
     def bits_set(self, place, c):
         if place is None:
             return True
         kind, i = place
         h = hashed(c)
-        child = self.root[i] if kind == "root" else self.children[i]
-        if not child // 2 ** (24 + h // 2**25 % 8) % 2:
+        if not self.link(place) // 2 ** (24 + h // 2**25 % 8) % 2:
             return False
-        return kind == "root" or self.keys[i] // 2 ** (48 + h // 2**28) % 2 == 1
+        return kind == "root" or self.key(i) // 2 ** (48 + h // 2**28) % 2 == 1
 
     def set_bits(self, place, c):
         if place is None:
             return
         kind, i = place
         h = hashed(c)
-        children = self.root if kind == "root" else self.children
-        children[i] = with_bit(children[i], 24 + h // 2**25 % 8)
+        self.set_link(place, with_bit(self.link(place), 24 + h // 2**25 % 8))
         if kind == "slot":
-            self.keys[i] = with_bit(self.keys[i], 48 + h // 2**28)
+            self.set_key(i, with_bit(self.key(i), 48 + h // 2**28))
 
     def slots_from(self, key):
         """All slots, from a key's start onward."""
-        n = len(self.keys)
+        n = self.slot_count()
         start = key * 0x9E3779B97F4A7C15 % 2**64 // (2**64 // n)
         return [(start + i) % n for i in range(n)]
 
     def probe(self, key):
         """The slot with the key, or the empty one where it would stand; the second part says which."""
         for at in self.slots_from(key):
-            if self.keys[at] == 0:
+            if self.key(at) == 0:
                 return at, False
-            if self.keys[at] % 2**48 == key:
+            if self.key(at) % 2**48 == key:
                 return at, True
         raise Refused(8)
 
     def in_root(self, place, c):
-        return place is None and c < len(self.root)
+        return place is None and c < len(self.roots)
 
     def step(self, place, c):
         """The place of a child, or None where there is none."""
         if self.in_root(place, c):
-            return ("root", c) if self.root[c] != 0 else None
+            return ("root", c) if self.roots[c] % HALF != 0 else None
         at, found = self.probe(self.node(place) * 2**21 + c + 1)
         return ("slot", at) if found else None
 
@@ -164,8 +197,8 @@ class Book:
 
     def record_at(self, place):
         """The record of a word's last step, or None."""
-        n = (self.root_words if place[0] == "root" else self.words)[place[1]]
-        if n != -1 and not 0 <= n < self.head[0]:
+        n = self.word_number(place)
+        if n >= self.head[0]:
             raise Refused(8)
         return None if n == -1 else n
 
@@ -187,12 +220,14 @@ class Book:
 
     def new_step(self, place, c):
         if self.in_root(place, c):
-            self.root[c], self.root_words[c] = self.new_node(), -1
-            return "root", c
-        key = self.node(place) * 2**21 + c + 1
-        at = next(i for i in self.slots_from(key) if self.keys[i] == 0)
-        self.keys[at], self.children[at], self.words[at] = key, self.new_node(), -1
-        return "slot", at
+            below = "root", c
+        else:
+            key = self.node(place) * 2**21 + c + 1
+            at = next(i for i in self.slots_from(key) if self.key(i) == 0)
+            self.set_key(at, key)
+            below = "slot", at
+        self.set_link(below, self.new_node())
+        return below
 
     def insert(self, word):
         place, is_new = None, False
@@ -201,40 +236,43 @@ class Book:
             below = None if is_new else self.step(place, c)
             is_new = below is None
             place = self.new_step(place, c) if is_new else below
-        (self.root_words if place[0] == "root" else self.words)[place[1]] = self.head[0]
+        self.set_word_number(place, self.head[0])
+
+    def frequency(self, record):
+        return self.records[record] % HALF
 
     def enter(self, word, frequency):
         self.test_head()
         record, total = self.record_of(word), self.head[3]
         if record is not None:
-            if self.frequencies[record] > total:
+            if self.frequency(record) > total:
                 raise Refused(8)
-            total -= self.frequencies[record]
+            total -= self.frequency(record)
         else:
             slots, nodes = self.needed(word)
         if total + frequency > GREATEST:
             raise Refused(5)
         if record is None:
-            if self.head[0] == len(self.frequencies):
+            if self.head[0] == len(self.records):
                 raise Refused(6)
-            if (self.head[1] + slots) * 8 > len(self.keys) * 6:
+            if (self.head[1] + slots) * 8 > self.slot_count() * 6:
                 raise Refused(7)
-            if self.keys.count(0) < slots or self.head[2] + nodes > LAST_NODE:
+            if self.keys().count(0) < slots or self.head[2] + nodes > LAST_NODE:
                 raise Refused(8)
             self.insert(word)
-            record = self.head[0]
+            record, above = self.head[0], 0
             self.head[0] += 1
             self.head[1] += slots
-        self.frequencies[record], self.logarithms[record] = frequency, logarithm(frequency)
+        else:
+            above = self.records[record] // HALF
+        self.records[record], self.logarithms[record] = above * HALF + frequency, logarithm(frequency)
         self.head[3] = total + frequency
 
     # -- the calls
 
     def prepare(self):
         self.test_sizes()
-        for area in self.root_words, self.words:
-            area[:] = [-1] * len(area)
-        for area in self.root, self.keys, self.children, self.frequencies, self.logarithms:
+        for area in self.areas:
             area[:] = [0] * len(area)
         self.head = [0, 0, 1, 0]
         return "0"
@@ -290,7 +328,7 @@ class Book:
             return "0, absent"
         self.test_head()
         record = self.record_of([ord(c) for c in characters])
-        return "0, absent" if record is None else f"0, frequency {self.frequencies[record]}"
+        return "0, absent" if record is None else f"0, frequency {self.frequency(record)}"
 
 
 # ---- scripts
@@ -310,9 +348,20 @@ def sum_of(book):
     return total
 
 
-def store(area, start, end, value):
-    for i in range(start, min(end, len(area))):
-        area[i] = value
+def store(book, name, start, end, value):
+    """A value into the places of a part: `table` and `root` are the root entries' children and word numbers, `keys`, `children` and
+    `words` the slots', `frequencies` whole records, `floats` the logarithms. The word number 2^32 - 1 stands for none."""
+    count, put = {
+        "table": (len(book.roots), lambda i: book.set_child(("root", i), value)),
+        "root": (len(book.roots), lambda i: book.set_word_number(("root", i), value)),
+        "keys": (book.slot_count(), lambda i: book.set_key(i, value)),
+        "children": (book.slot_count(), lambda i: book.set_child(("slot", i), value)),
+        "words": (book.slot_count(), lambda i: book.set_word_number(("slot", i), value)),
+        "frequencies": (len(book.records), lambda i: setitem(book.records, i, value)),
+        "floats": (len(book.logarithms), lambda i: setitem(book.logarithms, i, value)),
+    }[name]
+    for i in range(start, min(end, count)):
+        put(i)
 
 
 def answer(book, command):
@@ -329,12 +378,8 @@ def answer(book, command):
     numbers = [int(n) for n in rest.split(b" ")]
     if name == b"head":
         book.head = numbers
-    elif name in [b"words", b"root"]:
-        start, end, n = numbers
-        store({b"words": book.words, b"root": book.root_words}[name], start, end, n if n < 2**31 else -2)
     else:
-        areas = {b"table": book.root, b"keys": book.keys, b"children": book.children, b"frequencies": book.frequencies}
-        store(areas[name], *numbers)
+        store(book, name.decode(), *numbers)
     return "stored"
 
 
@@ -346,8 +391,8 @@ def shown(command):
 
 
 def play(heading, sizes, commands):
-    root, root_words, keys, children, words, frequencies, logarithms = sizes
-    yield f"{heading} (root {root} {root_words}, slots {keys} {children} {words}, records {frequencies} {logarithms})"
+    roots, slots, records, logarithms = sizes
+    yield f"{heading} (root {roots}, slots {slots}, records {records} {logarithms})"
     book = Book(sizes)
     after = sum_of(book)
     for command in commands:

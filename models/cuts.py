@@ -68,12 +68,9 @@ class Areas:
             place = book.step(place, c)
             if place is None:
                 return
-            n = (book.root_words if place[0] == "root" else book.words)[place[1]]
-            if n == -1:
-                continue
-            if not 0 <= n < book.head[0]:
-                raise Refused(8)
-            yield end, double(book.logarithms[n])
+            record = book.record_at(place)
+            if record is not None:
+                yield end, double(book.logarithms[record])
 
 
 class Words:
@@ -289,20 +286,14 @@ def change(book, command):
     """A store of one value into a part of an area."""
     name, *numbers = command.split(" ")
     start, end, value = map(int, numbers)
-    if name in ("root", "words"):
-        value = value if value < 2**31 else -2
     if name == "floats":
         value = struct.unpack(">d", value.to_bytes(8, "big"))[0]
-    areas = {
-        "table": book.root, "root": book.root_words, "keys": book.keys, "children": book.children, "words": book.words,
-        "floats": book.logarithms,
-    }  # fmt: skip
-    store(areas[name], start, end, value)
+    store(book, name, start, end, value)
 
 
 def play(heading, sizes, dictionary, stores, commands):
-    root, root_words, keys, children, words, frequencies, logarithms = sizes
-    yield f"{heading} (root {root} {root_words}, slots {keys} {children} {words}, records {frequencies} {logarithms})"
+    roots, slots, records, logarithms = sizes
+    yield f"{heading} (root {roots}, slots {slots}, records {records} {logarithms})"
     book = Book(sizes)
     try:
         yield f"prepare: {book.prepare()}"

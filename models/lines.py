@@ -26,8 +26,8 @@ KINDS = {1: LOAD, 2: CUT, 3: ALL, 4: SEARCH}
 DIGITS = b"0123456789abcdefABCDEF"
 LONGEST = 1024
 
-# The areas that are lent: root entries, slots and records; characters and one more, edges and tokens.
-SIZES = (256, 256, 1024, 1024, 1024, 256, 256)
+# The areas that are lent: root entries, slots of two numbers and records; characters and one more, edges and tokens.
+SIZES = (256, 2 * 1024, 256, 256)
 WORK, EDGES, PLACES = 1025, 1024, 512
 
 

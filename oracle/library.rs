@@ -63,13 +63,13 @@ impl Work {
 
     /// Gives the work area so many places.
     fn lend(&mut self, length: usize) {
-        let Scratch { chars, offsets, starts, scores, ends, records, .. } = &mut self.scratch;
+        let Scratch { chars, offsets, starts, scores, ends, route_records, .. } = &mut self.scratch;
         chars.resize(length, 0xDEAD_BEEF);
         offsets.resize(length, 0xDEAD_BEEF_DEAD_BEEF);
         starts.resize(length, usize::MAX);
         scores.resize(length, f64::NAN);
         ends.resize(length, 0xDEAD_BEEF);
-        records.resize(length, 0xDEAD_BEEF);
+        route_records.resize(length, 0xDEAD_BEEF);
     }
 
     /// What a cut answers with so many places of the work area and this token area.
@@ -90,12 +90,9 @@ impl Book {
         let mut book = Book {
             dictionary: Dictionary::from_areas(Areas {
                 head: vec![u64::MAX; 4],
-                root_children: vec![0xDEAD_BEEF; root],
-                root_words: vec![7; root],
-                keys: vec![u64::MAX; slots],
-                children: vec![0xDEAD_BEEF; slots],
-                words: vec![7; slots],
-                frequencies: vec![7; records],
+                roots: vec![0xDEAD_BEEF_DEAD_BEEF; root],
+                slots: vec![u64::MAX; 2 * slots],
+                records: vec![0xDEAD_BEEF_DEAD_BEEF; records],
                 logarithms: vec![f64::NAN; records],
             }),
         };

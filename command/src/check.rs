@@ -94,7 +94,7 @@ fn disappointing(word: &str) -> Option<String> {
 /// What a vocabulary needs, by what the words have taken.
 fn print_sizes(out: &mut impl Write, dictionary: &Dictionary) -> io::Result<()> {
     let [records, taken, _, total] = dictionary.areas().head[..] else { unreachable!("a head has four numbers") };
-    let roots = dictionary.areas().root_children.len();
+    let roots = dictionary.areas().roots.len();
     let slots = (taken * 8).div_ceil(6).max(16).next_power_of_two();
     let sizes = Sizes { roots, slots: slots as usize, records: records.max(1) as usize };
     writeln!(out, "{records} words, total {total}")?;

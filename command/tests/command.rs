@@ -134,7 +134,7 @@ owner.txt:12: refused: not UTF-8: saved as GBK?
 owner.txt:13: refused: its frequency is no number from 0 to 4294967295
 2 refused, 11 warnings
 10 words, total 35
-sizes: 65536 root entries, 32 slots (17 taken), 10 records: 524952 bytes
+sizes: 65536 root entries, 32 slots (17 taken), 10 records: 524992 bytes
 ";
     assert_eq!((output.status.code(), said.as_str()), (Some(1), expected));
 }

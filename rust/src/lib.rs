@@ -36,6 +36,7 @@ pub const MOST_SLOTS: usize = 4_194_304;
 pub const MOST_RECORDS: usize = 1_048_576;
 
 const HEAD_LENGTH: usize = 4;
+const SLOT_WIDTH: usize = 2;
 const TOKEN_WIDTH: usize = 6;
 
 /// A book's areas.
@@ -44,12 +45,14 @@ const TOKEN_WIDTH: usize = 6;
 pub struct Areas {
     /// Records used, slots used, next node, total.
     pub head: Vec<u64>,
-    pub root_children: Vec<u32>,
-    pub root_words: Vec<i32>,
-    pub keys: Vec<u64>,
-    pub children: Vec<u32>,
-    pub words: Vec<i32>,
-    pub frequencies: Vec<u32>,
+    /// The root table, a link each: a child in the lower 32 bits, the number of a word's record plus one in the upper 32.
+    pub roots: Vec<u64>,
+    /// Two numbers a slot: a key, and behind it a link.
+    pub slots: Vec<u64>,
+    /// A word's frequency in the lower 32 bits. The upper 32 are kept for later: a new word has 0 there, and a new frequency
+    /// leaves them as they are.
+    pub records: Vec<u64>,
+    /// One for each record.
     pub logarithms: Vec<f64>,
 }
 
@@ -80,7 +83,7 @@ pub struct Scratch {
     pub starts: Vec<usize>,
     pub scores: Vec<f64>,
     pub ends: Vec<u32>,
-    pub records: Vec<u32>,
+    pub route_records: Vec<u32>,
     pub edge_ends: Vec<u32>,
     pub edge_records: Vec<u32>,
     /// Six numbers a token: its start and end in characters, in bytes and in UTF-16 code units.
@@ -92,12 +95,9 @@ impl Areas {
     pub fn with_sizes(roots: usize, slots: usize, records: usize) -> Areas {
         Areas {
             head: vec![0; HEAD_LENGTH],
-            root_children: vec![0; roots],
-            root_words: vec![0; roots],
-            keys: vec![0; slots],
-            children: vec![0; slots],
-            words: vec![0; slots],
-            frequencies: vec![0; records],
+            roots: vec![0; roots],
+            slots: vec![0; slots.saturating_mul(SLOT_WIDTH)],
+            records: vec![0; records],
             logarithms: vec![0.0; records],
         }
     }
@@ -250,7 +250,7 @@ impl Scratch {
             starts: vec![0; work],
             scores: vec![0.0; work],
             ends: vec![0; work],
-            records: vec![0; work],
+            route_records: vec![0; work],
             edge_ends: vec![0; edges],
             edge_records: vec![0; edges],
             tokens: vec![0; tokens * TOKEN_WIDTH],

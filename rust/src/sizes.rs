@@ -34,7 +34,7 @@ impl Sizes {
 
     /// The bytes of a book of these sizes.
     pub fn bytes(&self) -> usize {
-        4 * 8 + self.roots * (4 + 4) + self.slots * (8 + 4 + 4) + self.records * (4 + 8)
+        4 * 8 + self.roots * 8 + self.slots * (8 + 8) + self.records * (8 + 8)
     }
 }
 

@@ -1,10 +1,23 @@
 //! Number 8: every kind of damage in document 01's list, made by hand in the areas.
 mod common;
 use common::*;
-use tongsvale::{Dictionary, Error};
+use tongsvale::{Areas, Dictionary, Error};
 
 /// A key that no character has.
 const NO_KEY: u64 = u64::MAX;
+
+/// No slot from this one on is empty, nor has it a key that a character has.
+fn fill_keys(areas: &mut Areas, start: usize) {
+    areas.slots.chunks_exact_mut(2).skip(start).for_each(|slot| slot[0] = NO_KEY);
+}
+
+/// A root entry without the bits of its child.
+fn without_bits(link: u64) -> u64 {
+    link & !0xff00_0000
+}
+
+/// Numbers of a word that name no record where two are used.
+const NO_RECORD: [u32; 5] = [2, 3, i32::MAX as u32, 1 << 31, u32::MAX - 1];
 
 /// Loading, adding and looking up this word and cutting it as a sentence all meet damage, and leave every area as it was.
 #[track_caller]
@@ -71,20 +84,20 @@ fn heads_at_their_ends_are_not_damaged() {
 #[test]
 fn a_probe_without_an_end() {
     // A first character among the slots.
-    let mut damaged = changed(&loaded(1, 16, 1, ""), |a| a.keys.fill(NO_KEY));
+    let mut damaged = changed(&loaded(1, 16, 1, ""), |a| fill_keys(a, 0));
     damaged_for_all(&mut damaged, "灯", "first step");
     // Characters that the root table serves do not probe.
     assert_eq!(damaged.lookup(b"\0"), Ok(None));
     // One empty slot, wherever it is, ends every probe.
     for slot in 0..16 {
-        let whole = changed(&damaged, |a| a.keys[slot] = 0);
+        let whole = changed(&damaged, |a| a.slots[key_at(slot)] = 0);
         assert_eq!(whole.lookup("灯".as_bytes()), Ok(None), "slot {slot}");
     }
     // A later step. The step that the root entry has no bit for is not probed.
     let whole = loaded(65_536, 16, 2, "甲乙 1\n");
-    let mut damaged = changed(&whole, |a| a.keys.fill(NO_KEY));
+    let mut damaged = changed(&whole, |a| fill_keys(a, 0));
     damaged_for_all(&mut damaged, "甲乙", "second step");
-    let bitless = changed(&damaged, |a| a.root_children['甲' as usize] &= 0xff_ffff);
+    let bitless = changed(&damaged, |a| a.roots['甲' as usize] = without_bits(a.roots['甲' as usize]));
     assert_eq!(bitless.lookup("甲乙".as_bytes()), Ok(None));
     assert_eq!(cut(&bitless, "甲乙"), (0, vec!["甲", "乙"]));
     // An insertion tests no bits, so it does probe.
@@ -97,15 +110,18 @@ fn a_probe_without_an_end() {
 /// 甲 and 甲乙, and the slot of the second.
 fn two_words() -> (Dictionary, usize) {
     let whole = loaded(65_536, 16, 3, "甲 1\n甲乙 2\n");
-    let slot = whole.areas().words.iter().position(|&word| word == 1).unwrap();
+    let slot = slot_where(whole.areas(), |_, link| upper(link) == 2);
     (whole, slot)
 }
 
 #[test]
 fn bad_word_numbers_in_the_root_table() {
     let (whole, _) = two_words();
-    for word in [2, 3, i32::MAX, -2, i32::MIN] {
-        let mut damaged = changed(&whole, |a| a.root_words['甲' as usize] = word);
+    // Exactly as many as are used is the last one's, which is 甲乙's.
+    let other = changed(&whole, |a| a.roots['甲' as usize] = with_upper(a.roots['甲' as usize], 2));
+    assert_eq!(other.lookup("甲".as_bytes()), Ok(Some(2)));
+    for word in NO_RECORD {
+        let mut damaged = changed(&whole, |a| a.roots['甲' as usize] = with_upper(a.roots['甲' as usize], word + 1));
         damaged_for_all(&mut damaged, "甲", "root");
         // Lookup and addition test the last step's only, cuts every one.
         assert_eq!(damaged.lookup("甲乙".as_bytes()), Ok(Some(2)), "{word}");
@@ -122,8 +138,8 @@ fn bad_word_numbers_in_the_root_table() {
 #[test]
 fn bad_word_numbers_in_the_slots() {
     let (whole, slot) = two_words();
-    for word in [2, 3, i32::MAX, -2, i32::MIN] {
-        let mut damaged = changed(&whole, |a| a.words[slot] = word);
+    for word in NO_RECORD {
+        let mut damaged = changed(&whole, |a| a.slots[link_at(slot)] = with_upper(a.slots[link_at(slot)], word + 1));
         assert_eq!(damaged.lookup("甲乙".as_bytes()), Err(Error::Damaged), "{word}");
         assert_eq!(unchanged(&mut damaged, |d| d.add_word("甲乙".as_bytes(), 1)), Err(Error::Damaged), "{word}");
         assert_eq!(unchanged(&mut damaged, |d| d.load("甲乙 1".as_bytes())), at_line(1, Error::Damaged), "{word}");
@@ -144,12 +160,12 @@ fn bad_word_numbers_in_the_slots() {
         assert_eq!(words(damaged.cut_for_search("丁,甲乙", &mut scratch(5, 4, 2))), (8, vec!["丁", ","]), "{word}");
         assert_eq!(words(damaged.cut_all(",甲乙", &mut scratch(4, 0, 1))), (11, vec![","]), "{word}");
         // Only the insertion reaches the step where its bit is missing, and it tests the number too.
-        let mut bitless = changed(&damaged, |a| a.root_children['甲' as usize] &= 0xff_ffff);
+        let mut bitless = changed(&damaged, |a| a.roots['甲' as usize] = without_bits(a.roots['甲' as usize]));
         assert_eq!(bitless.lookup("甲乙".as_bytes()), Ok(None), "{word}");
         assert_eq!(unchanged(&mut bitless, |d| d.add_word("甲乙".as_bytes(), 1)), Err(Error::Damaged), "{word}");
     }
-    // -1 is no word, and no damage.
-    let without = changed(&whole, |a| a.words[slot] = -1);
+    // 0 is no word, and no damage.
+    let without = changed(&whole, |a| a.slots[link_at(slot)] = with_upper(a.slots[link_at(slot)], 0));
     assert_eq!(without.lookup("甲乙".as_bytes()), Ok(None));
     assert_eq!(cut_all(&without, "甲乙"), (0, vec!["甲"]));
 }
@@ -169,7 +185,7 @@ fn a_replaced_frequency_above_the_total() {
 
 #[test]
 fn fewer_empty_slots_than_a_new_word_needs() {
-    let one_empty = changed(&loaded(1, 16, 2, ""), |a| a.keys[1..].fill(NO_KEY));
+    let one_empty = changed(&loaded(1, 16, 2, ""), |a| fill_keys(a, 1));
     let mut damaged = one_empty.clone();
     assert_eq!(unchanged(&mut damaged, |d| d.add_word(b"ab", 1)), Err(Error::Damaged));
     assert_eq!(unchanged(&mut damaged, |d| d.load(b"ab")), at_line(1, Error::Damaged));
@@ -207,13 +223,11 @@ fn nodes_run_out() {
 fn loops_and_strange_floats_are_cut_all_the_same() {
     // 甲's node leads to itself: 甲甲甲... is walked as long as the sentence is.
     let whole = loaded(1, 16, 2, "甲甲 1\n");
-    let slot = whole.areas().words.iter().position(|&word| word == 0).unwrap();
-    let first = whole.areas().keys.iter().position(|key| key & 0xffff_ffff_ffff == '甲' as u64 + 1).unwrap();
-    let node = whole.areas().children[first] & 0xff_ffff;
+    let slot = slot_where(whole.areas(), |_, link| upper(link) == 1);
+    let first = slot_where(whole.areas(), |key, _| key & 0xffff_ffff_ffff == '甲' as u64 + 1);
     let looped = changed(&whole, |a| {
-        a.children[slot] = a.children[first];
-        a.keys[slot] |= a.keys[first] & !0xffff_ffff_ffff;
-        assert_eq!(a.children[slot] & 0xff_ffff, node);
+        a.slots[link_at(slot)] = with_upper(a.slots[link_at(first)], 1);
+        a.slots[key_at(slot)] |= a.slots[key_at(first)] & !0xffff_ffff_ffff;
     });
     assert_eq!(cut_all(&looped, "甲甲甲甲"), (0, vec!["甲甲", "甲甲甲", "甲甲甲甲", "甲甲", "甲甲甲", "甲甲"]));
     for logarithm in [f64::NAN, f64::INFINITY, f64::NEG_INFINITY, f64::MAX, -0.0] {

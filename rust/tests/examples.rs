@@ -182,11 +182,8 @@ fn prepare_empties() {
     dictionary.prepare().unwrap();
     let areas = dictionary.areas();
     assert_eq!(areas.head, [0, 0, 1, 0]);
-    assert!(areas.root_children.iter().all(|&n| n == 0) && areas.root_words.iter().all(|&n| n == -1));
-    assert!(
-        areas.keys.iter().all(|&n| n == 0) && areas.children.iter().all(|&n| n == 0) && areas.words.iter().all(|&n| n == -1)
-    );
-    assert!(areas.frequencies.iter().all(|&n| n == 0) && areas.logarithms.iter().all(|&n| n == 0.0));
+    assert!(areas.roots.iter().all(|&n| n == 0) && areas.slots.iter().all(|&n| n == 0));
+    assert!(areas.records.iter().all(|&n| n == 0) && areas.logarithms.iter().all(|&n| n == 0.0));
     assert_eq!(dictionary.lookup("打".as_bytes()), Ok(None));
 }
 

@@ -7,12 +7,9 @@ use tongsvale::{Areas, Dictionary, Error, TokenizeMode};
 fn filled(roots: usize, slots: usize, records: usize) -> Areas {
     let mut areas = Areas::with_sizes(roots, slots, records);
     areas.head.fill(801);
-    areas.root_children.fill(802);
-    areas.root_words.fill(803);
-    areas.keys.fill(804);
-    areas.children.fill(805);
-    areas.words.fill(806);
-    areas.frequencies.fill(807);
+    areas.roots.fill(802 << 32 | 803);
+    areas.slots.fill(804 << 32 | 805);
+    areas.records.fill(806 << 32 | 807);
     areas.logarithms.fill(808.5);
     areas
 }
@@ -66,21 +63,21 @@ fn number_1_for_sizes() {
 type Change = fn(&mut Areas);
 
 #[test]
+fn number_1_for_slots_of_an_odd_length() {
+    // Half of them, rounded down or up, is a number of slots that is allowed.
+    for length in [31, 33, 63, 65, 127, 129] {
+        let mut areas = filled(2, 32, 2);
+        areas.slots.resize(length, 804);
+        refused_by_all(areas, &format!("slots of {length} numbers"));
+    }
+}
+
+#[test]
 fn number_1_for_unequal_slices() {
     // Both lengths of each pair are allowed by themselves, so only the difference is at fault.
-    let changes: [(&str, Change); 14] = [
-        ("root_children shorter", |a| a.root_children.truncate(1)),
-        ("root_children longer", |a| a.root_children.resize(3, 0)),
-        ("root_words shorter", |a| a.root_words.truncate(1)),
-        ("root_words longer", |a| a.root_words.resize(3, 0)),
-        ("keys shorter", |a| a.keys.truncate(16)),
-        ("keys longer", |a| a.keys.resize(64, 0)),
-        ("children shorter", |a| a.children.truncate(16)),
-        ("children longer", |a| a.children.resize(64, 0)),
-        ("words shorter", |a| a.words.truncate(16)),
-        ("words longer", |a| a.words.resize(64, 0)),
-        ("frequencies shorter", |a| a.frequencies.truncate(1)),
-        ("frequencies longer", |a| a.frequencies.resize(3, 0)),
+    let changes: [(&str, Change); 4] = [
+        ("records shorter", |a| a.records.truncate(1)),
+        ("records longer", |a| a.records.resize(3, 0)),
         ("logarithms shorter", |a| a.logarithms.truncate(1)),
         ("logarithms longer", |a| a.logarithms.resize(3, 0.0)),
     ];
@@ -252,7 +249,7 @@ fn number_9() {
         |s, n| s.starts.truncate(n),
         |s, n| s.scores.truncate(n),
         |s, n| s.ends.truncate(n),
-        |s, n| s.records.truncate(n),
+        |s, n| s.route_records.truncate(n),
     ];
     for (sentence, characters) in [("", 0), ("灯", 1), ("打开,客厅灯", 6)] {
         for (slice, shorten) in shorten.iter().enumerate() {

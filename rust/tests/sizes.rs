@@ -52,7 +52,7 @@ fn a_table_that_is_just_full_is_large_enough() {
 fn a_text_beyond_the_limits_gets_the_limits() {
     let sizes = Sizes::for_text("甲乙丙丁戊己庚辛壬癸\n".repeat(MOST_RECORDS / 2));
     assert_eq!((sizes.slots, sizes.records), (MOST_SLOTS, MOST_RECORDS / 2));
-    assert_eq!(sizes.bytes(), 32 + 65_536 * 8 + MOST_SLOTS * 16 + MOST_RECORDS / 2 * 12);
+    assert_eq!(sizes.bytes(), 32 + 65_536 * 8 + MOST_SLOTS * 16 + MOST_RECORDS / 2 * 16);
 }
 
 /// Cuts in all words, with more places where there are too few.

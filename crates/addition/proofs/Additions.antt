@@ -89,25 +89,25 @@ module _ (b : Book) (word : List ℕ) (frequency : ℕ) where
 
 -- ---- the answers, as they are given: with the head and the areas as they are left
 
-module _ (head : Head) (trie : CharTrie) (f : List ℕ) (l : List Float) (word : List ℕ) (frequency : ℕ) {t : WordTest}
-    (tested : t ≡ testedWord (sized (bookOf head trie f l)) word) where
+module _ (head : Head) (trie : CharTrie) (records : List ℕ) (l : List Float) (word : List ℕ) (frequency : ℕ) {t : WordTest}
+    (tested : t ≡ testedWord (sized (bookOf head trie records l)) word) where
   pub refused : {o : Outcome} → t ≡ Refused o → {r : Added} → r ≡ notAdded head o
-      → addAnswer (r .outcome) (r .frequency) (bookOf (r .head) trie f l) ≡ addOf (bookOf head trie f l) word frequency
-  refused e q = rw q (rw e at (by-tests (bookOf head trie f l) word frequency tested))
+      → addAnswer (r .outcome) (r .frequency) (bookOf (r .head) trie records l) ≡ addOf (bookOf head trie records l) word frequency
+  refused e q = rw q (rw e at (by-tests (bookOf head trie records l) word frequency tested))
 
   pub empty : t ≡ Empty → {r : Added} → r ≡ notAdded head Done
-      → addAnswer (r .outcome) (r .frequency) (bookOf (r .head) trie f l) ≡ addOf (bookOf head trie f l) word frequency
-  empty e q = rw q (rw e at (by-tests (bookOf head trie f l) word frequency tested))
+      → addAnswer (r .outcome) (r .frequency) (bookOf (r .head) trie records l) ≡ addOf (bookOf head trie records l) word frequency
+  empty e q = rw q (rw e at (by-tests (bookOf head trie records l) word frequency tested))
 
   module _ (e : t ≡ Word) where
     pub too-frequent : greatestTotal < frequency → {r : Added} → r ≡ notAdded head BadFrequency
-        → addAnswer (r .outcome) (r .frequency) (bookOf (r .head) trie f l) ≡ addOf (bookOf head trie f l) word frequency
-    too-frequent g q = rw q (rw (e, lt-leb frequency greatestTotal g) at (by-tests (bookOf head trie f l) word frequency tested))
+        → addAnswer (r .outcome) (r .frequency) (bookOf (r .head) trie records l) ≡ addOf (bookOf head trie records l) word frequency
+    too-frequent g q = rw q (rw (e, lt-leb frequency greatestTotal g) at (by-tests (bookOf head trie records l) word frequency tested))
 
-    pub answered : frequency ≤ greatestTotal → (trie₁ : CharTrie) (f₁ : List ℕ) (l₁ : List Float) {a : Entered}
-        → enterAnswer (a .outcome) (bookOf (a .head) trie₁ f₁ l₁) ≡ enterText (bookOf head trie f l) (charsOf word) frequency
-        → {r : Added} → r ≡ addedBy a frequency → addAnswer (r .outcome) (r .frequency) (bookOf (r .head) trie₁ f₁ l₁)
-        ≡ addOf (bookOf head trie f l) word frequency
-    answered g trie₁ f₁ l₁ enters q =
+    pub answered : frequency ≤ greatestTotal → (trie₁ : CharTrie) (records₁ : List ℕ) (l₁ : List Float) {a : Entered}
+        → enterAnswer (a .outcome) (bookOf (a .head) trie₁ records₁ l₁) ≡ enterText (bookOf head trie records l) (charsOf word) frequency
+        → {r : Added} → r ≡ addedBy a frequency → addAnswer (r .outcome) (r .frequency) (bookOf (r .head) trie₁ records₁ l₁)
+        ≡ addOf (bookOf head trie records l) word frequency
+    answered g trie₁ records₁ l₁ enters q =
         rw q (ap (λ (x : EnterAnswer). addOn x frequency) enters
-        ∙ (rw (e, le-leb frequency greatestTotal g) at (by-tests (bookOf head trie f l) word frequency tested)))
+        ∙ (rw (e, le-leb frequency greatestTotal g) at (by-tests (bookOf head trie records l) word frequency tested)))

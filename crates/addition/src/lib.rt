@@ -1,6 +1,6 @@
 //! Adding a word with its frequency to a book (lib.rs, `add_word`).
 //!
-//! The Rust grows its tables. Here a book is seven lent slices and a head by value, which goes in and comes back with the
+//! The Rust grows its tables. Here a book is four lent slices and a head by value, which goes in and comes back with the
 //! answer. The sizes of what is lent are tested, and nothing is required of the caller.
 ghost use mathlib.Core.Path.{_≡_};
 ghost use Rattle.trie.specs.Lent.{was};
@@ -50,29 +50,23 @@ fn added_by(entered: Entered, frequency: u64) -> Added
 // Adds a word with its frequency, or gives a word that is held the new frequency.
 pub fn add_word(
     head: Head,
-    root_children: &mut [u32],
-    root_words: &mut [i32],
-    keys: &mut [u64],
-    children: &mut [u32],
-    words: &mut [i32],
-    frequencies: &mut [u32],
+    roots: &mut [u64],
+    slots: &mut [u64],
+    records: &mut [u64],
     logarithms: &mut [f64],
     word: &[u8],
     frequency: u64,
 ) -> Added
     ensures { λ r. ⌜ addAnswer (r .outcome) (r .frequency)
-        (bookLeft (r .head) «root_children» «root_words» keys children words frequencies logarithms)
-        ≡ addOf (bookLent head «root_children» «root_words» keys children words frequencies logarithms) (was word) frequency ⌝ }
+        (bookLeft (r .head) roots slots records logarithms)
+        ≡ addOf (bookLent head roots slots records logarithms) (was word) frequency ⌝ }
     ensures { λ r. ⌜ addedReturns (r .outcome) (r .frequency)
-        ≡ addReturns (bookLent head «root_children» «root_words» keys children words frequencies logarithms) (was word) frequency ⌝ }
+        ≡ addReturns (bookLent head roots slots records logarithms) (was word) frequency ⌝ }
 {
     match lookup::test_word(
-        root_children.len(),
-        root_words.len(),
-        keys.len(),
-        children.len(),
-        words.len(),
-        frequencies.len(),
+        roots.len(),
+        slots.len(),
+        records.len(),
         logarithms.len(),
         word,
     ) {
@@ -83,16 +77,13 @@ pub fn add_word(
     if book::GREATEST_TOTAL < frequency {
         return not_added(head, Outcome::BadFrequency);
     }
-    let shift = trie::shift_of(keys.len());
+    let shift = trie::shift_of(slots.len() / 2);
     let logarithm = score::log(frequency as u32);
     let entered = entry::load_entry(
         head,
-        root_children,
-        root_words,
-        keys,
-        children,
-        words,
-        frequencies,
+        roots,
+        slots,
+        records,
         logarithms,
         shift,
         word,

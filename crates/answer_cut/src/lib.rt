@@ -14,12 +14,9 @@ use frames::Kind;
 // Answers a frame that leaves the book as it is, and what is no frame.
 pub fn put_answer(
     head: Head,
-    root_children: &[u32],
-    root_words: &[i32],
-    keys: &[u64],
-    children: &[u32],
-    words: &[i32],
-    frequencies: &[u32],
+    roots: &[u64],
+    slots: &[u64],
+    records: &[u64],
     logarithms: &[f64],
     kind: Kind,
     text: &[u8],
@@ -27,19 +24,16 @@ pub fn put_answer(
     at: usize,
 ) -> usize
     requires { ⌜ (at + longestAnswer ≤ length (now out)) × (kind ≡ Kind.Load → ⊥) ⌝ }
-    ensures { λ r. ⌜ Put (was out) at (answerBy kind (bookLent head «root_children» «root_words» keys children words frequencies logarithms)
+    ensures { λ r. ⌜ Put (was out) at (answerBy kind (bookLent head roots slots records logarithms)
         (was text) .line) (became out) r ⌝ }
     ensures { λ r. ⌜ r ≤ at + longestAnswer ⌝ }
 {
     match kind {
         Kind::Cut => answers::put_tokenize(
             head,
-            root_children,
-            root_words,
-            keys,
-            children,
-            words,
-            frequencies,
+            roots,
+            slots,
+            records,
             logarithms,
             text,
             TokenizeMode::Default,
@@ -48,12 +42,9 @@ pub fn put_answer(
         ),
         Kind::CutAll => answers::put_cut_all(
             head,
-            root_children,
-            root_words,
-            keys,
-            children,
-            words,
-            frequencies,
+            roots,
+            slots,
+            records,
             logarithms,
             text,
             out,
@@ -61,12 +52,9 @@ pub fn put_answer(
         ),
         Kind::CutForSearch => answers::put_tokenize(
             head,
-            root_children,
-            root_words,
-            keys,
-            children,
-            words,
-            frequencies,
+            roots,
+            slots,
+            records,
             logarithms,
             text,
             TokenizeMode::Search,

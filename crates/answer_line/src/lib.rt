@@ -2,7 +2,6 @@
 //! the book lent between.
 //!
 //! A frame asks for one of the public calls. The book serves one line after the other.
-ghost use mathlib.Core.Path.{_≡_};
 ghost use Prim.Native.Nat.{_+_, _≤_};
 ghost use lib.ListN.{length};
 ghost use Rattle.trie.specs.Lent.{was, became};
@@ -15,20 +14,17 @@ use frames::Kind;
 // Answers a line without its end: writes the answer from a place on.
 pub fn answer_line(
     head: Head,
-    root_children: &mut [u32],
-    root_words: &mut [i32],
-    keys: &mut [u64],
-    children: &mut [u32],
-    words: &mut [i32],
-    frequencies: &mut [u32],
+    roots: &mut [u64],
+    slots: &mut [u64],
+    records: &mut [u64],
     logarithms: &mut [f64],
     line: &[u8],
     out: &mut [u8],
     at: usize,
 ) -> Answer
     requires { ⌜ at + longestAnswer ≤ length (now out) ⌝ }
-    ensures { λ r. ⌜ Answered (answerOf (bookLent head «root_children» «root_words» keys children words frequencies logarithms) (was line))
-        (was out) at (became out) (r .end) (bookLeft (r .head) «root_children» «root_words» keys children words frequencies logarithms) ⌝ }
+    ensures { λ r. ⌜ Answered (answerOf (bookLent head roots slots records logarithms) (was line))
+        (was out) at (became out) (r .end) (bookLeft (r .head) roots slots records logarithms) ⌝ }
     ensures { λ r. ⌜ r .end ≤ at + longestAnswer ⌝ }
 {
     let mut bytes = [0u8; frames::LONGEST];
@@ -38,12 +34,9 @@ pub fn answer_line(
     if let Kind::Load = kind {
         return answers::put_load(
             head,
-            root_children,
-            root_words,
-            keys,
-            children,
-            words,
-            frequencies,
+            roots,
+            slots,
+            records,
             logarithms,
             &bytes[1..end],
             out,
@@ -52,12 +45,9 @@ pub fn answer_line(
     }
     let end = answer_cut::put_answer(
         head,
-        root_children,
-        root_words,
-        keys,
-        children,
-        words,
-        frequencies,
+        roots,
+        slots,
+        records,
         logarithms,
         kind,
         &bytes[1..end],

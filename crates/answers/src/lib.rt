@@ -4,14 +4,13 @@
 //! The areas of a cut are made anew for each, in the lengths that document 01 names; the book is the caller's.
 ghost use mathlib.Core.Path.{_≡_};
 ghost use Prim.Native.Nat.{_+_, _*_, _≤_};
-ghost use lib.ListN.{length, take};
+ghost use lib.ListN.{length};
 ghost use Rattle.trie.specs.Lent.{was, became};
 ghost use Rattle.book.specs.Areas.{bookLent, bookLeft};
-ghost use Rattle.book.specs.Enter.{loadOf};
 ghost use Rattle.cuts.specs.Tokens.{tokenWidth};
 ghost use Rattle.cuts.specs.Cuts.{cutAnswer, tokenizeOf, cutAllOf};
 ghost use Rattle.printing.specs.Answers.{Put};
-ghost use Rattle.answers.specs.Answers.{workLength, edgeLength, places, noTokens, loadLine, cutLine, NumbersOf, longestAnswer, answerBy, Answered};
+ghost use Rattle.answers.specs.Answers.{workLength, edgeLength, places, noTokens, cutLine, NumbersOf, longestAnswer, answerBy, Answered};
 use book::Head;
 use cuts::Cut;
 use cuts::TokenizeMode;
@@ -62,12 +61,9 @@ fn put_cut(cut: Cut, tokens: &[u32], out: &mut [u8], at: usize) -> usize
 // 02 and 04: cuts a sentence by a mode, and writes the answer.
 pub fn put_tokenize(
     head: Head,
-    root_children: &[u32],
-    root_words: &[i32],
-    keys: &[u64],
-    children: &[u32],
-    words: &[i32],
-    frequencies: &[u32],
+    roots: &[u64],
+    slots: &[u64],
+    records: &[u64],
     logarithms: &[f64],
     sentence: &[u8],
     mode: TokenizeMode,
@@ -76,7 +72,7 @@ pub fn put_tokenize(
 ) -> usize
     requires { ⌜ at + longestAnswer ≤ length (now out) ⌝ }
     ensures { λ r. ⌜ Put (was out) at (cutLine (tokenizeOf mode
-        (bookLent head «root_children» «root_words» keys children words frequencies logarithms) workLength edgeLength noTokens (was sentence)))
+        (bookLent head roots slots records logarithms) workLength edgeLength noTokens (was sentence)))
         (became out) r ⌝ }
     ensures { λ r. ⌜ r ≤ at + longestAnswer ⌝ }
 {
@@ -85,18 +81,15 @@ pub fn put_tokenize(
     let mut starts = [0usize; WORK];
     let mut scores = [0.0f64; WORK];
     let mut ends = [0u32; WORK];
-    let mut records = [0u32; WORK];
+    let mut route_records = [0u32; WORK];
     let mut edge_ends = [0u32; EDGES];
     let mut edge_records = [0u32; EDGES];
     let mut tokens = [0u32; TOKENS];
     let cut = tokenize::tokenize(
         head,
-        root_children,
-        root_words,
-        keys,
-        children,
-        words,
-        frequencies,
+        roots,
+        slots,
+        records,
         logarithms,
         sentence,
         mode,
@@ -105,7 +98,7 @@ pub fn put_tokenize(
         &mut starts,
         &mut scores,
         &mut ends,
-        &mut records,
+        &mut route_records,
         &mut edge_ends,
         &mut edge_records,
         &mut tokens,
@@ -116,19 +109,16 @@ pub fn put_tokenize(
 // 03: cuts a sentence into all its words, and writes the answer.
 pub fn put_cut_all(
     head: Head,
-    root_children: &[u32],
-    root_words: &[i32],
-    keys: &[u64],
-    children: &[u32],
-    words: &[i32],
-    frequencies: &[u32],
+    roots: &[u64],
+    slots: &[u64],
+    records: &[u64],
     logarithms: &[f64],
     sentence: &[u8],
     out: &mut [u8],
     at: usize,
 ) -> usize
     requires { ⌜ at + longestAnswer ≤ length (now out) ⌝ }
-    ensures { λ r. ⌜ Put (was out) at (cutLine (cutAllOf (bookLent head «root_children» «root_words» keys children words frequencies logarithms)
+    ensures { λ r. ⌜ Put (was out) at (cutLine (cutAllOf (bookLent head roots slots records logarithms)
         workLength noTokens (was sentence))) (became out) r ⌝ }
     ensures { λ r. ⌜ r ≤ at + longestAnswer ⌝ }
 {
@@ -137,12 +127,9 @@ pub fn put_cut_all(
     let mut tokens = [0u32; TOKENS];
     let cut = cut_all::cut_all(
         head,
-        root_children,
-        root_words,
-        keys,
-        children,
-        words,
-        frequencies,
+        roots,
+        slots,
+        records,
         logarithms,
         sentence,
         &mut chars,
@@ -155,33 +142,20 @@ pub fn put_cut_all(
 // 01: loads a dictionary, and writes the answer.
 pub fn put_load(
     head: Head,
-    root_children: &mut [u32],
-    root_words: &mut [i32],
-    keys: &mut [u64],
-    children: &mut [u32],
-    words: &mut [i32],
-    frequencies: &mut [u32],
+    roots: &mut [u64],
+    slots: &mut [u64],
+    records: &mut [u64],
     logarithms: &mut [f64],
     text: &[u8],
     out: &mut [u8],
     at: usize,
 ) -> Answer
     requires { ⌜ at + longestAnswer ≤ length (now out) ⌝ }
-    ensures { λ r. ⌜ Answered (answerBy Kind.Load (bookLent head «root_children» «root_words» keys children words frequencies logarithms) (was text))
-        (was out) at (became out) (r .end) (bookLeft (r .head) «root_children» «root_words» keys children words frequencies logarithms) ⌝ }
+    ensures { λ r. ⌜ Answered (answerBy Kind.Load (bookLent head roots slots records logarithms) (was text))
+        (was out) at (became out) (r .end) (bookLeft (r .head) roots slots records logarithms) ⌝ }
     ensures { λ r. ⌜ r .end ≤ at + longestAnswer ⌝ }
 {
-    let loaded = dict::load_dict(
-        head,
-        root_children,
-        root_words,
-        keys,
-        children,
-        words,
-        frequencies,
-        logarithms,
-        text,
-    );
+    let loaded = dict::load_dict(head, roots, slots, records, logarithms, text);
     let outcome = loaded.outcome;
     let end = printing::put_answer(book::number_of(outcome), loaded.line, &[], out, at);
     let head = loaded.head;

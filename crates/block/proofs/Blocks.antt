@@ -16,7 +16,7 @@ use Rattle.book.specs.declared.Outcome.the-variants.{Damaged, EdgesFull}
 use Rattle.book.specs.Areas.{bookOf}
 use Rattle.book.specs.Returns.{Book}
 use Rattle.book.specs.Prefixes.{Edge, wordsFrom}
-use Rattle.route.specs.Route.{Best, routeOf}
+use Rattle.route.specs.Route.{routeOf}
 use Rattle.route.specs.Slices.{rowsOf, EdgesFit, KeepsRoute}
 use Rattle.route.proofs.Forward.{ends-forward}
 use Rattle.cuts.specs.Edges.{Edges, edges, stopped, vocabularyOf, walksOf, edgesWithin}

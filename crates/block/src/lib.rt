@@ -3,11 +3,10 @@
 //! The two cuts differ in one call, what a token brings: itself, or in search its parts and the words in it too. So a block is cut
 //! by a mode, as the Rust's `cut_each` is by what it is told to emit.
 ghost use mathlib.Core.Path.{_≡_};
-ghost use Prim.Native.Nat.{_+_, _-_, _≤_};
+ghost use Prim.Native.Nat.{_+_, _≤_};
 ghost use lib.ListN.{length, take};
-ghost use Rattle.trie.specs.Trie.{SlotCount, log2};
+ghost use Rattle.trie.specs.Trie.{SlotTable};
 ghost use Rattle.trie.specs.Lent.{was, became, trieLent};
-ghost use Rattle.walk.specs.Walk.{EquallyLong};
 ghost use Rattle.classes.specs.Blocks.{cutClass};
 ghost use Rattle.book.specs.Returns.{Book, longestText, mostRecords};
 ghost use Rattle.cuts.specs.Slices.{blockOf, Characters, Placed};
@@ -32,11 +31,8 @@ pub struct Plan {
 // The tokens of a block, which is recorded as a run: of the class, by its edges and its route; outside it, each character. A token
 // outside the class has no connector and at most two characters, so that search finds nothing in it.
 pub fn cut_block(
-    root_children: &[u32],
-    root_words: &[i32],
-    keys: &[u64],
-    children: &[u32],
-    words: &[i32],
+    roots: &[u64],
+    slots: &[u64],
     logarithms: &[f64],
     plan: Plan,
     run: Run,
@@ -53,13 +49,12 @@ pub fn cut_block(
     tokens: &mut [u32],
     count: usize,
 ) -> Cut
-    requires { ⌜ EquallyLong (now «root_children») (now «root_words») (now keys) (now children) (now words) ⌝ }
-    requires { ⌜ SlotCount (length (now keys)) × (plan .shift ≡ 64 - log2 (length (now keys))) × (plan .used ≤ mostRecords)
+    requires { ⌜ SlotTable (length (now slots)) (plan .shift) × (plan .used ≤ mostRecords)
         × (plan .used ≤ length (now logarithms)) ⌝ }
     requires { ⌜ WorkFits (run .chars) (now chars) (now offsets) (now starts) (now scores) (now ends) (now records)
         × Characters (run .chars) (now chars) × (base + run .chars ≤ longestText) ⌝ }
     requires { ⌜ (room ≤ length (now «edge_ends»)) × (room ≤ length (now «edge_records»)) × OneKind cutClass (run .matched) (run .chars) (now chars) ⌝ }
-    ensures { λ r. ⌜ ((b : Book) (place : Base) → Planned b (trieLent «root_children» «root_words» keys children words) (was logarithms) plan
+    ensures { λ r. ⌜ ((b : Book) (place : Base) → Planned b (trieLent roots slots) (was logarithms) plan
         → Placed place base (take (run .chars) (was chars)) (was offsets)
         → cutAnswer r (became tokens) ≡ blockBy (plan .mode) (vocabularyOf b) room place (blockOf (run .matched) (take (run .chars) (was chars)))
         (written count (was tokens))) ⌝ }
@@ -69,11 +64,8 @@ pub fn cut_block(
         return unmatched::cut_unmatched(chars, offsets, n, base, tokens, count);
     }
     match sparse_dag::for_each_prefix_at_every_char(
-        root_children,
-        root_words,
-        keys,
-        children,
-        words,
+        roots,
+        slots,
         plan.shift,
         plan.used,
         chars,

@@ -1,11 +1,10 @@
 //! The blocks of a sentence (lib.rs, the loop of `cut_each`): each is recorded and cut, one after the other.
 ghost use mathlib.Core.Path.{_≡_};
 ghost use mathlib.Core.Option.{IsSome};
-ghost use Prim.Native.Nat.{_-_, _≤_};
+ghost use Prim.Native.Nat.{_≤_};
 ghost use lib.ListN.{length};
-ghost use Rattle.trie.specs.Trie.{SlotCount, log2};
+ghost use Rattle.trie.specs.Trie.{SlotTable};
 ghost use Rattle.trie.specs.Lent.{was, became, trieLent};
-ghost use Rattle.walk.specs.Walk.{EquallyLong};
 ghost use Rattle.utf8.specs.Text.{charsOf};
 ghost use Rattle.book.specs.Returns.{Book, longestText, mostRecords};
 ghost use Rattle.classes.specs.Blocks.{cutClass};
@@ -22,11 +21,8 @@ use runs::CharacterClass;
 
 // The blocks of a sentence, one after the other, up to one that is stopped.
 pub fn cut_blocks(
-    root_children: &[u32],
-    root_words: &[i32],
-    keys: &[u64],
-    children: &[u32],
-    words: &[i32],
+    roots: &[u64],
+    slots: &[u64],
     logarithms: &[f64],
     plan: Plan,
     sentence: &[u8],
@@ -41,13 +37,11 @@ pub fn cut_blocks(
     room: usize,
     tokens: &mut [u32],
 ) -> Cut
-    requires { ⌜ EquallyLong (now «root_children») (now «root_words») (now keys) (now children) (now words) ⌝ }
-    requires { ⌜ SlotCount (length (now keys)) × (plan .shift ≡ 64 - log2 (length (now keys))) × (plan .used ≤ mostRecords)
-        × (plan .used ≤ length (now logarithms)) ⌝ }
+    requires { ⌜ SlotTable (length (now slots)) (plan .shift) × (plan .used ≤ mostRecords) × (plan .used ≤ length (now logarithms)) ⌝ }
     requires { ⌜ (length (now sentence) ≤ longestText) × IsSome (charsOf (now sentence)) ⌝ }
     requires { ⌜ WorkFits (length (textFrom (now sentence) 0)) (now chars) (now offsets) (now starts) (now scores) (now ends) (now records) ⌝ }
     requires { ⌜ (room ≤ length (now «edge_ends»)) × (room ≤ length (now «edge_records»)) ⌝ }
-    ensures { λ r. ⌜ ((b : Book) → Planned b (trieLent «root_children» «root_words» keys children words) (was logarithms) plan
+    ensures { λ r. ⌜ ((b : Book) → Planned b (trieLent roots slots) (was logarithms) plan
         → cutAnswer r (became tokens) ≡ cutBlocks (blockBy (plan .mode) (vocabularyOf b) room) start (blocksOf cutClass (textFrom (was sentence) 0))
         (written 0 (was tokens))) ⌝ }
 {
@@ -65,11 +59,8 @@ pub fn cut_blocks(
             offsets,
         );
         let cut = block::cut_block(
-            root_children,
-            root_words,
-            keys,
-            children,
-            words,
+            roots,
+            slots,
             logarithms,
             plan,
             run,

@@ -1,6 +1,6 @@
 -- The two decisions by numbers, test by test: each law says what the decision is where the tests before it have passed.
 -- Assumes nothing.
-use mathlib.Core.Path.{_≡_, refl}
+use mathlib.Core.Path.{_≡_}
 use mathlib.Core.Bool.{true, false}
 use mathlib.Core.List.{List}
 use Prim.Native.Nat.{ℕ, _+_, _-_, _*_, _<_, _≤_}
@@ -36,15 +36,15 @@ module _ (h : Head) (records : ℕ) (keys : List ℕ) (slots nodes frequency : �
     pub records-taken : noRecord h records ≡ true → Refuse RecordsFull ≡ insertBy h records keys slots nodes frequency
     records-taken g = rw (le-ltb greatestTotal (h .total + frequency) a, g)
 
-    module _ (b : noRecord h records ≡ false) where
-      pub slots-taken : length keys * 6 < (h .slots + slots) * 8 → Refuse SlotsFull ≡ insertBy h records keys slots nodes frequency
+    module _ (b : noRecord h records ≡ false) (n : ℕ) (long : length keys ≡ n) where
+      pub slots-taken : n * 6 < (h .slots + slots) * 8 → Refuse SlotsFull ≡ insertBy h records keys slots nodes frequency
       slots-taken g =
-          rw (le-ltb greatestTotal (h .total + frequency) a, b, lt-ltb (length keys * 6) ((h .slots + slots) * 8) g)
+          rw (le-ltb greatestTotal (h .total + frequency) a, b, long, lt-ltb (n * 6) ((h .slots + slots) * 8) g)
 
-      module _ (c : (h .slots + slots) * 8 ≤ length keys * 6) where
+      module _ (c : (h .slots + slots) * 8 ≤ n * 6) where
         pub slots-missing : ltb (emptySlots keys) slots ≡ true → Refuse Damaged ≡ insertBy h records keys slots nodes frequency
         slots-missing g =
-            rw (le-ltb greatestTotal (h .total + frequency) a, b, le-ltb (length keys * 6) ((h .slots + slots) * 8) c, g)
+            rw (le-ltb greatestTotal (h .total + frequency) a, b, long, le-ltb (n * 6) ((h .slots + slots) * 8) c, g)
 
         module _ (d : ltb (emptySlots keys) slots ≡ false) where
           pub nodes-missing : greatestNext < h .next + nodes → Refuse Damaged ≡ insertBy h records keys slots nodes frequency
@@ -52,7 +52,8 @@ module _ (h : Head) (records : ℕ) (keys : List ℕ) (slots nodes frequency : �
               rw (
                 le-ltb greatestTotal (h .total + frequency) a,
                 b,
-                le-ltb (length keys * 6) ((h .slots + slots) * 8) c,
+                long,
+                le-ltb (n * 6) ((h .slots + slots) * 8) c,
                 d,
                 lt-ltb greatestNext (h .next + nodes) g,
               )
@@ -62,7 +63,8 @@ module _ (h : Head) (records : ℕ) (keys : List ℕ) (slots nodes frequency : �
               rw (
                 le-ltb greatestTotal (h .total + frequency) a,
                 b,
-                le-ltb (length keys * 6) ((h .slots + slots) * 8) c,
+                long,
+                le-ltb (n * 6) ((h .slots + slots) * 8) c,
                 d,
                 le-ltb greatestNext (h .next + nodes) g,
               )

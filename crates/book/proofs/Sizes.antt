@@ -1,8 +1,8 @@
 -- What the tests of a book's sizes and of its head say, taken apart.
 -- Assumes nothing.
-use mathlib.Core.Path.{_≡_, refl, sym, ap, _∙_}
+use mathlib.Core.Path.{_≡_, refl}
 use mathlib.Core.Bool.{Bool, true, false, _&&_, _||_}
-use Prim.Native.Nat.{ℕ, _+_, _*_, _≤_, _<_}
+use Prim.Native.Nat.{ℕ, _*_, _≤_}
 use native.Mathlib.Omega.{arith}
 use borrow.Author.Tests.{leb-true, ltb-false, eqb-true}
 use lib.Dec.{leb, ltb, eqb}
@@ -22,16 +22,16 @@ neither false y e = (refl, e)
 
 -- ---- sizes
 
-pub record Sizes (rootChildren rootWords keys children words frequencies logarithms : ℕ) : Type 0 where
+pub record Sizes (rootChildren rootWords keys children words records logarithms : ℕ) : Type 0 where
   pub roots-least : 1 ≤ rootChildren
   pub roots-most : rootChildren ≤ 65536
   pub root-words : rootWords ≡ rootChildren
   pub slots : slotCount keys ≡ true
   pub slot-children : children ≡ keys
   pub slot-words : words ≡ keys
-  pub records-least : 1 ≤ frequencies
-  pub records-most : frequencies ≤ mostRecords
-  pub record-logarithms : logarithms ≡ frequencies
+  pub records-least : 1 ≤ records
+  pub records-most : records ≤ mostRecords
+  pub record-logarithms : logarithms ≡ records
 
 pub sizes : (a b c d e f g : ℕ) → allowed a b c d e f g ≡ true → Sizes a b c d e f g
 unfolding allowed

@@ -1,15 +1,15 @@
 -- How a word enters, additions and loads: document 01, "A line enters: `load_dict`, `load_entry`, `add_word`", with the order of the refusals of
 -- "What each call returns".
 -- Assumes nothing.
-use Prim.Native.Nat.{ℕ, zero, suc, _+_, _-_, _*_}
-use mathlib.Core.Bool.{Bool, true, false, cond}
+use Prim.Native.Nat.{ℕ, suc, _+_, _-_, _*_, _/_, _^_}
+use mathlib.Core.Bool.{Bool, cond}
 use mathlib.Core.List.{List, [], _∷_}
 use mathlib.Core.Option.{Option, none, some}
 use lib.Dec.{eqb, leb, ltb}
-use lib.IntN.{ℤ, pos}
+use lib.IntN.{pos}
 use lib.ListN.{length, getD, set}
 use Rattle.utf8.specs.Text.{charsOf}
-use Rattle.lines.specs.Lines.{linesOf, Meaning, malformed, blank, badFrequency, entry, meaningOf}
+use Rattle.lines.specs.Lines.{linesOf, malformed, blank, badFrequency, entry, meaningOf}
 use Rattle.score.specs.Logarithm.{logFloat}
 use Rattle.trie.specs.declared.Got.{Got}
 use Rattle.trie.specs.declared.Got.the-variants.{Held, Absent}
@@ -17,13 +17,13 @@ use Rattle.trie.specs.declared.ParentRef.{ParentRef}
 use Rattle.trie.specs.declared.ParentRef.the-variants.{Root}
 use Rattle.trie.specs.declared.WordNumber.{WordNumber}
 use Rattle.trie.specs.declared.WordNumber.the-variants.{NoWord, Record, Bad}
-use Rattle.trie.specs.Trie.{CharTrie, getOf, wordAt, Reach, Reached, NoEnd, reach, newSlots, newNodes, insert}
+use Rattle.trie.specs.Trie.{getOf, wordAt, Reach, Reached, NoEnd, reach, newSlots, newNodes, insert}
 use Rattle.book.specs.declared.Head.{Head}
 use Rattle.book.specs.declared.Outcome.{Outcome}
 use Rattle.book.specs.declared.Outcome.the-variants.{Done, BadAreas, TooLong, Malformed, BadFrequency, TotalTooLarge, RecordsFull, SlotsFull, Damaged}
 use Rattle.book.specs.declared.Decision.{Decision}
 use Rattle.book.specs.declared.Decision.the-variants.{Refuse, Replace, Insert}
-use Rattle.book.specs.Returns.{Book, sized, longestText, greatestTotal, greatestNext, damagedHead}
+use Rattle.book.specs.Returns.{Book, frequencyAt, sized, longestText, greatestTotal, greatestNext, damagedHead}
 
 -- ---- a word enters: the decision
 
@@ -34,7 +34,7 @@ replaceBy total old n frequency =
     cond (ltb total old) (Refuse Damaged) (cond (leb (total - old + frequency) greatestTotal) (Replace n (total - old + frequency)) (Refuse TotalTooLarge))
 
 abbrev pub decideHeld : Book → ℕ → ℕ → Decision
-decideHeld b n frequency = replaceBy (b .head .total) (getD (b .frequencies) n 0) n frequency
+decideHeld b n frequency = replaceBy (b .head .total) (frequencyAt b n) n frequency
 
 -- "new word, every record taken", of so many records; the record that a new word takes
 abbrev pub noRecord : Head → ℕ → Bool
@@ -64,7 +64,7 @@ insertBy h records keys slots nodes frequency =
     (Insert slots nodes (h .total + frequency))))))
 
 abbrev pub decideNew : Book → ℕ → ℕ → ℕ → Decision
-decideNew b slots nodes frequency = insertBy (b .head) (length (b .frequencies)) (b .trie .keys) slots nodes frequency
+decideNew b slots nodes frequency = insertBy (b .head) (length (b .records)) (b .trie .keys) slots nodes frequency
 
 -- the insertion's own walk, which tests no bits; where every step is there, a bad word number at the last one is damage
 abbrev pub decideReached : Book → ParentRef → List ℕ → WordNumber → ℕ → Decision
@@ -91,12 +91,20 @@ decide b word frequency =
 abbrev pub withTotal : Head → ℕ → Head
 withTotal h total = record { records = h .records; slots = h .slots; next = h .next; total = total }
 
+-- the cell of a new word's record: its frequency, and 0 in the high half
+abbrev pub newCell : ℕ → ℕ
+newCell frequency = frequency
+
+-- a cell with another frequency: the high half stays
+unfoldable pub cellWithFrequency : ℕ → ℕ → ℕ
+cellWithFrequency cell frequency = cell / 2 ^ 32 * 2 ^ 32 + frequency
+
 -- "A held word gets the new frequency": its record's frequency, and the logarithm
 unfoldable pub replaced : Book → ℕ → ℕ → ℕ → Book
 replaced b n frequency total = record {
   head = withTotal (b .head) total;
   trie = b .trie;
-  frequencies = set (b .frequencies) n frequency;
+  records = set (b .records) n (cellWithFrequency (getD (b .records) n 0) frequency);
   logarithms = set (b .logarithms) n (logFloat frequency);
 }
 
@@ -109,7 +117,7 @@ inserted b word frequency slots nodes total = record {
     total = total;
   };
   trie = insert (b .trie) Root word (b .head .next) (pos (nextRecord (b .head)));
-  frequencies = set (b .frequencies) (nextRecord (b .head)) frequency;
+  records = set (b .records) (nextRecord (b .head)) (newCell frequency);
   logarithms = set (b .logarithms) (nextRecord (b .head)) (logFloat frequency);
 }
 

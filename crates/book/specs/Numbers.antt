@@ -49,7 +49,7 @@ addedReturns o frequency = returned (numberOf o) (value frequency)
 -- ---- the calls
 
 abbrev pub prepareReturns : CharTrie → List ℕ → List Float → Returned
-prepareReturns t f l = preparedReturns (prepareOf t f l .prepared)
+prepareReturns t r l = preparedReturns (prepareOf t r l .prepared)
 
 abbrev pub lookupReturns : Book → List ℕ → Returned
 lookupReturns b word = foundReturns (lookupOf b word)

@@ -1,7 +1,7 @@
 -- Books, their sizes and their damage, and what a lookup returns: document 01, "What each call returns".
 -- Assumes nothing.
-use Prim.Native.Nat.{ℕ, _+_, _*_}
-use mathlib.Core.Bool.{Bool, true, false, cond, _&&_, _||_}
+use Prim.Native.Nat.{ℕ, _*_, _%_, _^_}
+use mathlib.Core.Bool.{Bool, cond, _&&_, _||_}
 use mathlib.Core.List.{List, [], _∷_}
 use mathlib.Core.Option.{Option, none, some}
 use lib.Dec.{eqb, leb, ltb}
@@ -45,8 +45,15 @@ isDone o = eqb (numberOf o) 0
 pub record Book : Type 0 where
   pub head : Head
   pub trie : CharTrie
-  pub frequencies : List ℕ
+  pub records : List ℕ
   pub logarithms : List Float
+
+-- a record's cell, of 64 bits: its frequency in the low 32. Nothing here reads the high 32
+unfoldable pub cellFrequency : ℕ → ℕ
+cellFrequency cell = cell % 2 ^ 32
+
+abbrev pub frequencyAt : Book → ℕ → ℕ
+frequencyAt b n = cellFrequency (getD (b .records) n 0)
 
 -- ---- sizes
 
@@ -61,16 +68,16 @@ mostRecords = 1048576
 -- "a root table of 1 to 65,536 entries, a power of two of slots from 16 to 4,194,304, and 1 to 1,048,576 records";
 -- "slices of one part of a book must be equally long": the lengths of the root's two, the slots' three and the records' two
 unfoldable pub allowed : ℕ → ℕ → ℕ → ℕ → ℕ → ℕ → ℕ → Bool
-allowed rootChildren rootWords keys children words frequencies logarithms =
+allowed rootChildren rootWords keys children words records logarithms =
     leb 1 rootChildren && leb rootChildren mostEntries && eqb rootWords rootChildren
     && slotCount keys && eqb children keys && eqb words keys
-    && leb 1 frequencies && leb frequencies mostRecords && eqb logarithms frequencies
+    && leb 1 records && leb records mostRecords && eqb logarithms records
 
 abbrev pub sized : Book → Bool
 sized b =
     allowed (length (b .trie .rootChildren)) (length (b .trie .rootWords))
     (length (b .trie .keys)) (length (b .trie .children)) (length (b .trie .words))
-    (length (b .frequencies)) (length (b .logarithms))
+    (length (b .records)) (length (b .logarithms))
 
 -- "text over 16,777,215 bytes"
 abbrev pub longestText : ℕ
@@ -93,7 +100,7 @@ headDamaged h records slots =
     || ltb greatestTotal (h .total) || ltb (h .next) 1 || ltb greatestNext (h .next)
 
 abbrev pub damagedHead : Book → Bool
-damagedHead b = headDamaged (b .head) (length (b .frequencies)) (length (b .trie .keys))
+damagedHead b = headDamaged (b .head) (length (b .records)) (length (b .trie .keys))
 
 -- ---- prepare
 
@@ -111,7 +118,7 @@ emptyBook roots slots records = record {
     children = replicate slots 0;
     words = replicate slots noWord;
   };
-  frequencies = replicate records 0;
+  records = replicate records 0;
   logarithms = replicate records (floatOf (whole (pos 0)));
 }
 
@@ -119,34 +126,34 @@ emptyBook roots slots records = record {
 pub record PrepareAnswer : Type 0 where
   pub prepared : Prepared
   pub trie : CharTrie
-  pub frequencies : List ℕ
+  pub records : List ℕ
   pub logarithms : List Float
 
 abbrev pub prepareAnswer : Prepared → CharTrie → List ℕ → List Float → PrepareAnswer
-prepareAnswer p t f l = record { prepared = p; trie = t; frequencies = f; logarithms = l }
+prepareAnswer p t r l = record { prepared = p; trie = t; records = r; logarithms = l }
 
 -- "Prepare: 1", or an empty book of the areas' sizes
 abbrev pub emptied : Book → PrepareAnswer
-emptied b = prepareAnswer (Ready (b .head)) (b .trie) (b .frequencies) (b .logarithms)
+emptied b = prepareAnswer (Ready (b .head)) (b .trie) (b .records) (b .logarithms)
 
 unfoldable pub prepareOf : CharTrie → List ℕ → List Float → PrepareAnswer
-prepareOf t f l =
-    cond (allowed (length (t .rootChildren)) (length (t .rootWords)) (length (t .keys)) (length (t .children)) (length (t .words)) (length f) (length l))
-    (emptied (emptyBook (length (t .rootChildren)) (length (t .keys)) (length f)))
-    (prepareAnswer (Refused BadAreas) t f l)
+prepareOf t r l =
+    cond (allowed (length (t .rootChildren)) (length (t .rootWords)) (length (t .keys)) (length (t .children)) (length (t .words)) (length r) (length l))
+    (emptied (emptyBook (length (t .rootChildren)) (length (t .keys)) (length r)))
+    (prepareAnswer (Refused BadAreas) t r l)
 
 -- ---- lookup: "1, 2, 3, empty word (absent), 8"
 
-abbrev pub foundBy : List ℕ → Got → Found
-foundBy frequencies (Held n) = Frequency (getD frequencies n 0)
-foundBy frequencies Got.Absent = Absent
-foundBy frequencies Got.Damaged = NotLookedUp Damaged
+abbrev pub foundBy : Book → Got → Found
+foundBy b (Held n) = Frequency (frequencyAt b n)
+foundBy b Got.Absent = Absent
+foundBy b Got.Damaged = NotLookedUp Damaged
 
 abbrev pub lookupChars : Book → Option (List ℕ) → Found
 lookupChars b none = NotLookedUp Malformed
 lookupChars b (some []) = Absent
 lookupChars b (some (c ∷ cs)) =
-    cond (damagedHead b) (NotLookedUp Damaged) (foundBy (b .frequencies) (getOf (b .head .records) (b .trie) (c ∷ cs)))
+    cond (damagedHead b) (NotLookedUp Damaged) (foundBy b (getOf (b .head .records) (b .trie) (c ∷ cs)))
 
 unfoldable pub lookupOf : Book → List ℕ → Found
 lookupOf b word =

@@ -3,7 +3,9 @@
 ghost use mathlib.Core.Path.{_≡_};
 ghost use Prim.Native.Nat.{_≤_};
 ghost use Rattle.trie.specs.SlotCounts.{mostSlots};
-ghost use Rattle.book.specs.Returns.{numberOf, isDone, allowed, headDamaged};
+ghost use Rattle.book.specs.Returns.{numberOf, cellFrequency, isDone, headDamaged};
+ghost use Rattle.book.specs.Enter.{cellWithFrequency};
+ghost use Rattle.book.specs.Areas.{areasAllowed};
 
 // The numbers of document 01's table, by their meaning.
 pub enum Outcome {
@@ -108,27 +110,35 @@ pub const GREATEST_TOTAL: u64 = 4_294_967_295;
 // The greatest number of the next node: the last that is given out is the one before it.
 pub const GREATEST_NEXT: u64 = 16_777_215;
 
-// Whether the lengths of a book's areas are allowed: the root's two, the slots' three, the records' two.
-pub fn is_allowed(
-    root_children: usize,
-    root_words: usize,
-    keys: usize,
-    children: usize,
-    words: usize,
-    frequencies: usize,
-    logarithms: usize,
-) -> bool
-    ensures { λ r. ⌜ r ≡ allowed «root_children» «root_words» keys children words frequencies logarithms ⌝ }
+// Whether the lengths of a book's areas are allowed: a number for each root entry, two for each slot, one for each record, and
+// its logarithm.
+pub fn is_allowed(roots: usize, slots: usize, records: usize, logarithms: usize) -> bool
+    ensures { λ r. ⌜ r ≡ areasAllowed roots slots records logarithms ⌝ }
 {
-    (1 <= root_children)
-        & (root_children <= MOST_ENTRIES)
-        & (root_words == root_children)
-        & trie::is_slot_count(keys)
-        & (children == keys)
-        & (words == keys)
-        & (1 <= frequencies)
-        & (frequencies <= MOST_RECORDS)
-        & (logarithms == frequencies)
+    (1 <= roots)
+        & (roots <= MOST_ENTRIES)
+        & trie::is_slot_count(slots / 2)
+        & (slots % 2 == 0)
+        & (1 <= records)
+        & (records <= MOST_RECORDS)
+        & (logarithms == records)
+}
+
+// 2^32: a record's frequency is what is below it.
+const FREQUENCIES: u64 = 0x1_0000_0000;
+
+// The frequency in a record's cell.
+pub fn cell_frequency(cell: u64) -> u32
+    ensures { λ r. ⌜ r ≡ cellFrequency cell ⌝ }
+{
+    (cell % FREQUENCIES) as u32
+}
+
+// A record's cell with another frequency.
+pub fn cell_with_frequency(cell: u64, frequency: u32) -> u64
+    ensures { λ r. ⌜ r ≡ cellWithFrequency cell frequency ⌝ }
+{
+    cell / FREQUENCIES * FREQUENCIES + frequency as u64
 }
 
 // Whether a head is damaged, in a book of so many records and slots.

@@ -30,22 +30,19 @@ fn head_after(head: Head, command: &[u8], name: u8) -> Head {
     }
 }
 
-// `frequencies` stores into the records; any other command stores nothing there.
-fn store_in_records(frequencies: &mut [u32], command: &[u8], name: u8) {
+// `frequencies` stores whole records; any other command stores nothing there.
+fn store_in_records(records: &mut [u64], command: &[u8], name: u8) {
     if name == b'f' {
-        stores::store_u32(frequencies, command);
+        stores::store_records(records, command);
     }
 }
 
 // What is answered with nothing written: `get` looks a word up, and any other command has stored before.
 fn read_only(
     head: Head,
-    root_children: &[u32],
-    root_words: &[i32],
-    keys: &[u64],
-    children: &[u32],
-    words: &[i32],
-    frequencies: &[u32],
+    roots: &[u64],
+    slots: &[u64],
+    records: &[u64],
     logarithms: &[f64],
     command: &[u8],
     name: u8,
@@ -58,12 +55,9 @@ fn read_only(
     }
     let answer = lookup::lookup(
         head,
-        root_children,
-        root_words,
-        keys,
-        children,
-        words,
-        frequencies,
+        roots,
+        slots,
+        records,
         logarithms,
         script::rest(command, 1),
     );
@@ -76,68 +70,37 @@ fn read_only(
 // Does what a command says on the whole book.
 fn call(
     head: Head,
-    root_children: &mut [u32],
-    root_words: &mut [i32],
-    keys: &mut [u64],
-    children: &mut [u32],
-    words: &mut [i32],
-    frequencies: &mut [u32],
+    roots: &mut [u64],
+    slots: &mut [u64],
+    records: &mut [u64],
     logarithms: &mut [f64],
     command: &[u8],
     name: u8,
 ) -> Answer {
     match name {
-        b'p' => calls::prepared(
-            head,
-            prepare::prepare(
-                root_children,
-                root_words,
-                keys,
-                children,
-                words,
-                frequencies,
-                logarithms,
-            ),
-        ),
+        b'p' => calls::prepared(head, prepare::prepare(roots, slots, records, logarithms)),
         b'l' => calls::loaded(dict::load_dict(
             head,
-            root_children,
-            root_words,
-            keys,
-            children,
-            words,
-            frequencies,
+            roots,
+            slots,
+            records,
             logarithms,
             script::rest(command, 1),
         )),
         b'a' => calls::added(addition::add_word(
             head,
-            root_children,
-            root_words,
-            keys,
-            children,
-            words,
-            frequencies,
+            roots,
+            slots,
+            records,
             logarithms,
             script::field(command, 1),
             script::number(command, 2),
         )),
         _ => {
-            stores::store_in_root(root_children, root_words, command);
-            stores::store_in_slots(keys, children, words, command);
-            store_in_records(frequencies, command, name);
-            read_only(
-                head,
-                root_children,
-                root_words,
-                keys,
-                children,
-                words,
-                frequencies,
-                logarithms,
-                command,
-                name,
-            )
+            stores::store_in_root(roots, command);
+            stores::store_in_slots(slots, command);
+            store_in_records(records, command, name);
+            read_only(head, roots, slots, records, logarithms, command, name)
         }
     }
 }
@@ -186,24 +149,13 @@ struct State {
 fn shown(
     given: Answer,
     before: u64,
-    root_children: &[u32],
-    root_words: &[i32],
-    keys: &[u64],
-    children: &[u32],
-    words: &[i32],
-    frequencies: &[u32],
+    roots: &[u64],
+    slots: &[u64],
+    records: &[u64],
     logarithms: &[f64],
     command: &[u8],
 ) -> State {
-    let sum = sums::sum_of(
-        root_children,
-        root_words,
-        keys,
-        children,
-        words,
-        frequencies,
-        logarithms,
-    );
+    let sum = sums::sum_of(roots, slots, records, logarithms);
     print_answer(command, given, before, sum);
     let head = given.head;
     State { head, sum }
@@ -212,51 +164,26 @@ fn shown(
 // Plays one command and prints its line.
 fn turn(
     state: State,
-    root_children: &mut [u32],
-    root_words: &mut [i32],
-    keys: &mut [u64],
-    children: &mut [u32],
-    words: &mut [i32],
-    frequencies: &mut [u32],
+    roots: &mut [u64],
+    slots: &mut [u64],
+    records: &mut [u64],
     logarithms: &mut [f64],
     command: &[u8],
 ) -> State {
     let given = call(
         state.head,
-        root_children,
-        root_words,
-        keys,
-        children,
-        words,
-        frequencies,
+        roots,
+        slots,
+        records,
         logarithms,
         command,
         script::name(command),
     );
-    shown(
-        given,
-        state.sum,
-        root_children,
-        root_words,
-        keys,
-        children,
-        words,
-        frequencies,
-        logarithms,
-        command,
-    )
+    shown(given, state.sum, roots, slots, records, logarithms, command)
 }
 
 // The state before a script: a head of zeros.
-fn start(
-    root_children: &[u32],
-    root_words: &[i32],
-    keys: &[u64],
-    children: &[u32],
-    words: &[i32],
-    frequencies: &[u32],
-    logarithms: &[f64],
-) -> State {
+fn start(roots: &[u64], slots: &[u64], records: &[u64], logarithms: &[f64]) -> State {
     State {
         head: Head {
             records: 0,
@@ -264,53 +191,24 @@ fn start(
             next: 0,
             total: 0,
         },
-        sum: sums::sum_of(
-            root_children,
-            root_words,
-            keys,
-            children,
-            words,
-            frequencies,
-            logarithms,
-        ),
+        sum: sums::sum_of(roots, slots, records, logarithms),
     }
 }
 
 // The commands of a script one after the other.
 fn play(
-    root_children: &mut [u32],
-    root_words: &mut [i32],
-    keys: &mut [u64],
-    children: &mut [u32],
-    words: &mut [i32],
-    frequencies: &mut [u32],
+    roots: &mut [u64],
+    slots: &mut [u64],
+    records: &mut [u64],
     logarithms: &mut [f64],
     script: &[u8],
 ) {
-    let mut state = start(
-        root_children,
-        root_words,
-        keys,
-        children,
-        words,
-        frequencies,
-        logarithms,
-    );
+    let mut state = start(roots, slots, records, logarithms);
     let mut at: usize = 0;
     while at < script.len() {
         let end = script::find(script, at, b';');
         let next = script::next_command(script, at);
-        state = turn(
-            state,
-            root_children,
-            root_words,
-            keys,
-            children,
-            words,
-            frequencies,
-            logarithms,
-            &script[at..end],
-        );
+        state = turn(state, roots, slots, records, logarithms, &script[at..end]);
         at = next;
     }
 }
@@ -318,27 +216,18 @@ fn play(
 // Plays a case. The areas hold sevens at first, so that what `prepare` writes shows.
 pub fn play_case(case: &[u8]) {
     output::print_heading(case);
-    let root = script::size(case, 1, 65537);
-    let root_words = script::size(case, 2, 65537);
-    let keys = script::size(case, 4, 64);
-    let children = script::size(case, 5, 64);
-    let words = script::size(case, 6, 64);
-    let frequencies = script::size(case, 8, 16);
-    let logarithms = script::size(case, 9, 16);
-    let mut root_area = areas::root_children();
-    let mut root_words_area = areas::root_words();
-    let mut key_area = [7u64; 64];
-    let mut child_area = [7u32; 64];
-    let mut word_area = [7i32; 64];
-    let mut frequency_area = [7u32; 16];
+    let roots = script::size(case, 1, 65537);
+    let slots = script::size(case, 3, 128);
+    let records = script::size(case, 5, 16);
+    let logarithms = script::size(case, 6, 16);
+    let mut root_area = areas::roots();
+    let mut slot_area = [7u64; 128];
+    let mut record_area = [7u64; 16];
     let mut logarithm_area = [7.0f64; 16];
     play(
-        &mut root_area[..root],
-        &mut root_words_area[..root_words],
-        &mut key_area[..keys],
-        &mut child_area[..children],
-        &mut word_area[..words],
-        &mut frequency_area[..frequencies],
+        &mut root_area[..roots],
+        &mut slot_area[..slots],
+        &mut record_area[..records],
         &mut logarithm_area[..logarithms],
         script::part(case, 2),
     );

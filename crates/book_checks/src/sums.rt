@@ -1,7 +1,4 @@
-//! The seven areas as lists of numbers: a sum that tells their contents apart.
-ghost use Prim.Native.Nat.{_<_};
-ghost use lib.ListN.{length};
-use trie::WordNumber;
+//! The four areas as lists of numbers: a sum that tells their contents apart.
 
 // The greatest prime below 2^32. Sums are kept below it.
 const PRIME: u64 = 4_294_967_291;
@@ -10,46 +7,11 @@ fn mix(sum: u64, x: u64) -> u64 {
     (sum % PRIME * 1_000_003 + x % PRIME) % PRIME
 }
 
-fn wide(x: u32) -> u64 {
-    x as u64
-}
-
-fn sum_u32(s: &[u32], start: u64) -> u64 {
-    let mut sum = start;
-    let mut i = 0;
-    while i < s.len() {
-        sum = mix(sum, wide(s[i]));
-        i += 1;
-    }
-    sum
-}
-
 fn sum_u64(s: &[u64], start: u64) -> u64 {
     let mut sum = start;
     let mut i = 0;
     while i < s.len() {
         sum = mix(sum, s[i]);
-        i += 1;
-    }
-    sum
-}
-
-// A word number counts as itself, -1 as the prime less 1, and any lower one as the prime less 2.
-fn code(words: &[i32], i: usize) -> u64
-    requires { ⌜ i < length (now words) ⌝ }
-{
-    match trie::word_number(words, i, 2_147_483_648) {
-        WordNumber::NoWord => PRIME - 1,
-        WordNumber::Record(n) => n as u64,
-        WordNumber::Bad => PRIME - 2,
-    }
-}
-
-fn sum_i32(s: &[i32], start: u64) -> u64 {
-    let mut sum = start;
-    let mut i = 0;
-    while i < s.len() {
-        sum = mix(sum, code(s, i));
         i += 1;
     }
     sum
@@ -75,17 +37,8 @@ fn sum_f64(s: &[f64], start: u64) -> u64 {
     sum
 }
 
-// The sum over all seven areas.
-pub fn sum_of(
-    root_children: &[u32],
-    root_words: &[i32],
-    keys: &[u64],
-    children: &[u32],
-    words: &[i32],
-    frequencies: &[u32],
-    logarithms: &[f64],
-) -> u64 {
-    let root = sum_i32(root_words, sum_u32(root_children, 1));
-    let slots = sum_i32(words, sum_u32(children, sum_u64(keys, root)));
-    sum_f64(logarithms, sum_u32(frequencies, slots))
+// The sum over all four areas.
+pub fn sum_of(roots: &[u64], slots: &[u64], records: &[u64], logarithms: &[f64]) -> u64 {
+    let trie = sum_u64(slots, sum_u64(roots, 1));
+    sum_f64(logarithms, sum_u64(records, trie))
 }

@@ -9,20 +9,20 @@ use Rattle.book.specs.Returns.{mostRecords, allowed}
 use Rattle.built.specs.Calls.{allowedSizes}
 use Rattle.built.proofs.Keys.{both}
 
-pub record Limits (rootChildren rootWords keys children words frequencies logarithms : ℕ) : Type 0 where
+pub record Limits (rootChildren rootWords keys children words records logarithms : ℕ) : Type 0 where
   pub roots-least : 1 ≤ rootChildren
   pub roots-most : rootChildren ≤ 65536
   pub root-words : rootWords ≡ rootChildren
   pub slots : slotCount keys ≡ true
   pub children-long : children ≡ keys
   pub words-long : words ≡ keys
-  pub records-least : 1 ≤ frequencies
-  pub records-most : frequencies ≤ mostRecords
-  pub logarithms-long : logarithms ≡ frequencies
+  pub records-least : 1 ≤ records
+  pub records-most : records ≤ mostRecords
+  pub logarithms-long : logarithms ≡ records
 
-module _ (rootChildren rootWords keys children words frequencies logarithms : ℕ) where
-  pub limits-of : allowed rootChildren rootWords keys children words frequencies logarithms ≡ true
-      → Limits rootChildren rootWords keys children words frequencies logarithms
+module _ (rootChildren rootWords keys children words records logarithms : ℕ) where
+  pub limits-of : allowed rootChildren rootWords keys children words records logarithms ≡ true
+      → Limits rootChildren rootWords keys children words records logarithms
   unfolding allowed
   limits-of e =
       let t8 = both _ _ e in
@@ -45,8 +45,8 @@ module _ (rootChildren rootWords keys children words frequencies logarithms : �
         logarithms-long = eqb-true _ _ (t8 .1);
       }
 
-  pub allowed-of : Limits rootChildren rootWords keys children words frequencies logarithms
-      → allowed rootChildren rootWords keys children words frequencies logarithms ≡ true
+  pub allowed-of : Limits rootChildren rootWords keys children words records logarithms
+      → allowed rootChildren rootWords keys children words records logarithms ≡ true
   unfolding allowed
   allowed-of l =
       rw (
@@ -62,8 +62,8 @@ module _ (rootChildren rootWords keys children words frequencies logarithms : �
       )
 
   -- then a book of these lengths starts from allowed sizes
-  pub as-sizes : Limits rootChildren rootWords keys children words frequencies logarithms
-      → Limits rootChildren rootChildren keys keys keys frequencies frequencies
+  pub as-sizes : Limits rootChildren rootWords keys children words records logarithms
+      → Limits rootChildren rootChildren keys keys keys records records
   as-sizes l = record {
     roots-least = l .roots-least;
     roots-most = l .roots-most;
@@ -76,8 +76,8 @@ module _ (rootChildren rootWords keys children words frequencies logarithms : �
     logarithms-long = refl;
   }
 
-pub lengths-allowed : (rootChildren rootWords keys children words frequencies logarithms : ℕ)
-    → allowed rootChildren rootWords keys children words frequencies logarithms ≡ true → allowedSizes rootChildren keys frequencies
-lengths-allowed rootChildren rootWords keys children words frequencies logarithms e =
-    allowed-of rootChildren rootChildren keys keys keys frequencies frequencies
-    (as-sizes _ _ _ _ _ _ _ (limits-of rootChildren rootWords keys children words frequencies logarithms e))
+pub lengths-allowed : (rootChildren rootWords keys children words records logarithms : ℕ)
+    → allowed rootChildren rootWords keys children words records logarithms ≡ true → allowedSizes rootChildren keys records
+lengths-allowed rootChildren rootWords keys children words records logarithms e =
+    allowed-of rootChildren rootChildren keys keys keys records records
+    (as-sizes _ _ _ _ _ _ _ (limits-of rootChildren rootWords keys children words records logarithms e))

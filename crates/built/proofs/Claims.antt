@@ -30,8 +30,8 @@ pub built-has-invariant : BuiltHasInvariant
 built-has-invariant b ledger (after roots slots records calls sizes) = built-by-calls roots slots records calls sizes
 
 prepared-empty : (b : Book) → sized b ≡ true
-    → prepareOf (b .trie) (b .frequencies) (b .logarithms)
-    ≡ emptied (emptyBook (length (b .trie .rootChildren)) (length (b .trie .keys)) (length (b .frequencies)))
+    → prepareOf (b .trie) (b .records) (b .logarithms)
+    ≡ emptied (emptyBook (length (b .trie .rootChildren)) (length (b .trie .keys)) (length (b .records)))
 unfolding prepareOf
 prepared-empty b sizes = rw sizes
 
@@ -49,7 +49,7 @@ pub held-as-ledger : HeldAsLedger
 held-as-ledger b ledger by word s = got-in b ledger (built-has-invariant b ledger by) word (scalars-within word s)
 
 -- the public answer of what is found
-found-as : (b : Book) (f : Option ℕ) (g : Got) → HeldAs b f g → foundBy (b .frequencies) g ≡ foundInLedger f
+found-as : (b : Book) (f : Option ℕ) (g : Got) → HeldAs b f g → foundBy b g ≡ foundInLedger f
 found-as b f g (held h e l) = rw e
 found-as b f g absent = refl
 

@@ -12,7 +12,7 @@ use Prim.Native.Nat.{ℕ, suc, _+_, _-_, _*_, _<_, _≤_}
 use native.Mathlib.Omega.{arith}
 use borrow.Author.Tests.{leb-true, leb-false, ltb-true, ltb-false, le-ltb}
 use lib.Dec.{leb, ltb}
-use lib.ListN.{length, getD}
+use lib.ListN.{length}
 use Rattle.trie.specs.declared.Got.{Got}
 use Rattle.trie.specs.declared.Got.the-variants.{Held, Absent}
 use Rattle.trie.specs.declared.ParentRef.{ParentRef}
@@ -27,7 +27,7 @@ use Rattle.book.specs.declared.Decision.the-variants.{Refuse, Replace, Insert}
 use Rattle.book.specs.declared.Outcome.{Outcome}
 use Rattle.book.specs.declared.Outcome.the-variants.{TotalTooLarge, RecordsFull, SlotsFull}
 use Rattle.trie.specs.SlotCounts.{mostSlots}
-use Rattle.book.specs.Returns.{numberOf, Book, greatestTotal, greatestNext, headDamaged, damagedHead, sized}
+use Rattle.book.specs.Returns.{numberOf, Book, frequencyAt, greatestTotal, greatestNext, headDamaged, damagedHead, sized}
 use Rattle.book.specs.Enter.{decideHeld, noRecord, emptySlots, decideNew, decideReached, decideAbsent, decide, enter, replaced, inserted}
 use Rattle.built.specs.Ledger.{Entry, frequencyIn, enterIn}
 use Rattle.built.specs.Built.{Agrees, not-entered, in-record, Built}
@@ -100,20 +100,20 @@ module _ {b : Book} {ledger : List Entry} (built : Built b ledger) where
       agrees = record-agrees (built .tables) word m n known named its-record
 
       -- its frequency is one of those that the total sums
-      frequency-within : getD (b .frequencies) n 0 ≤ b .head .total
+      frequency-within : frequencyAt b n ≤ b .head .total
       frequency-within =
-          let its : orZero (frequencyIn ledger word) ≡ getD (b .frequencies) n 0 = ap orZero (record-holds agrees .1) in
+          let its : orZero (frequencyIn ledger word) ≡ frequencyAt b n = ap orZero (record-holds agrees .1) in
           omega (arith, frequency-most ledger word, built .records .total)
 
       abbrev replaced-total : ℕ
-      replaced-total = b .head .total - getD (b .frequencies) n 0 + frequency
+      replaced-total = b .head .total - frequencyAt b n + frequency
 
       held-decided : Decided word frequency (decideHeld b n frequency)
       held-decided = go _ _ refl refl
         where
-          go : (above within : Bool) → ltb (b .head .total) (getD (b .frequencies) n 0) ≡ above → leb replaced-total greatestTotal ≡ within
+          go : (above within : Bool) → ltb (b .head .total) (frequencyAt b n) ≡ above → leb replaced-total greatestTotal ≡ within
               → Decided word frequency (cond above (Refuse Outcome.Damaged) (cond within (Replace n replaced-total) (Refuse TotalTooLarge)))
-          go true within ea ew = let above : b .head .total < getD (b .frequencies) n 0 = ltb-true _ _ ea in absurd (omega (arith, frequency-within))
+          go true within ea ew = let above : b .head .total < frequencyAt b n = ltb-true _ _ ea in absurd (omega (arith, frequency-within))
           go false false ea ew = refuses {o = TotalTooLarge} (λ e. omega arith) (λ e. omega arith)
           go false true ea ew = replaces (replaced-built built word m n frequency replaced-total known named its-record agrees refl (leb-true _ _ ew))
 
@@ -147,7 +147,7 @@ module _ {b : Book} {ledger : List Entry} (built : Built b ledger) where
           → Decided word frequency (decideNew b (taken p rest) (length rest) frequency)
       new-decided p rest far = go _ _ _ _ _ refl refl refl refl refl
         where
-          go : (t5 t6 t7 t8 t9 : Bool) → ltb greatestTotal (b .head .total + frequency) ≡ t5 → noRecord (b .head) (length (b .frequencies)) ≡ t6
+          go : (t5 t6 t7 t8 t9 : Bool) → ltb greatestTotal (b .head .total + frequency) ≡ t5 → noRecord (b .head) (length (b .records)) ≡ t6
               → ltb (length (b .trie .keys) * 6) ((b .head .slots + taken p rest) * 8) ≡ t7 → ltb (emptySlots (b .trie .keys)) (taken p rest) ≡ t8
               → ltb greatestNext (b .head .next + length rest) ≡ t9
               → Decided word frequency

@@ -21,8 +21,9 @@ use Rattle.trie.specs.declared.WordNumber.{WordNumber}
 use Rattle.trie.specs.declared.WordNumber.the-variants.{Record, Bad}
 use Rattle.trie.specs.Trie.{CharTrie, noWord, wordNumber, probeOf, nodeAt, fromRoot, bitsAt, wordAt, withWord, insert}
 use Rattle.score.specs.Logarithm.{logFloat}
-use Rattle.book.specs.Returns.{Book, greatestTotal}
-use Rattle.book.specs.Enter.{inserted}
+use Rattle.book.specs.Returns.{Book, cellFrequency, greatestTotal}
+use Rattle.book.specs.Enter.{newCell, inserted}
+use Rattle.book.proofs.Areas.{new-frequency}
 use Rattle.built.specs.Ledger.{Entry, frequencyIn, enterIn}
 use Rattle.built.specs.Built.{Sizes, Store, Agrees, not-entered, in-record, Records, Tables, Built}
 use Rattle.built.proofs.Ledgers.{orZero, sum-entered, once-kept}
@@ -151,7 +152,7 @@ next-is-record used = rw (lt-ltb used (used + 1) (omega arith))
 module _ {b : Book} {ledger : List Entry} (records : Records b ledger) (word : List ℕ) (not-empty : word ≢ []) (absent : frequencyIn ledger word ≡ none)
     (frequency slots nodes total : ℕ)
     (l : Laid b ledger (b .head .next + nodes) (b .head .slots + slots) (reverse word) (insert (b .trie) Root word (b .head .next)))
-    (room : b .head .records < length (b .frequencies)) (total-is : total ≡ b .head .total + frequency) (total-most : total ≤ greatestTotal) where
+    (room : b .head .records < length (b .records)) (total-is : total ≡ b .head .total + frequency) (total-most : total ≤ greatestTotal) where
   abbrev s : Standing b ledger (l .trie) (b .head .next + nodes) (b .head .slots + slots) (l .place) (reverse word)
   s = l .standing
 
@@ -182,9 +183,9 @@ module _ {b : Book} {ledger : List Entry} (records : Records b ledger) (word : L
         ∙ next-is-record n;
     used = omega arith;
     more = omega arith;
-    its-frequency = getD-set-same (b .frequencies) n frequency 0 room;
+    its-frequency = ap cellFrequency (getD-set-same (b .records) n (newCell frequency) 0 room) ∙ new-frequency frequency (omega arith);
     its-logarithm = getD-set-same (b .logarithms) n (logFloat frequency) nan (rw (records .logarithms) room);
-    frequency-kept = λ i ne. getD-set-other (b .frequencies) n i frequency 0 ne;
+    frequency-kept = λ i ne. ap cellFrequency (getD-set-other (b .records) n i (newCell frequency) 0 ne);
     logarithm-kept = λ i ne. getD-set-other (b .logarithms) n i (logFloat frequency) nan ne;
     number-kept = λ k h ne good. number-elsewhere (l .trie) (pos n) (n + 1) (s .place (s .node)) (s .place k) (elsewhere k h ne)
         ∙ more-records-at n (l .trie) (s .place k) good;
@@ -198,7 +199,7 @@ module _ {b : Book} {ledger : List Entry} (records : Records b ledger) (word : L
   inserted-records : Records after (enterIn ledger word frequency)
   unfolding inserted
   inserted-records =
-      let long = length-set (b .frequencies) n frequency in
+      let long = length-set (b .records) n (newCell frequency) in
       let sum = sum-entered ledger word frequency in
       let old : orZero (frequencyIn ledger word) ≡ 0 = ap orZero absent in
       record {

@@ -20,8 +20,9 @@ use Rattle.trie.specs.declared.WordNumber.{WordNumber}
 use Rattle.trie.specs.declared.WordNumber.the-variants.{Record, Bad}
 use Rattle.trie.specs.Trie.{CharTrie, wordAt}
 use Rattle.score.specs.Logarithm.{logFloat}
-use Rattle.book.specs.Returns.{Book, greatestTotal}
-use Rattle.book.specs.Enter.{replaced}
+use Rattle.book.specs.Returns.{Book, cellFrequency, frequencyAt, greatestTotal}
+use Rattle.book.specs.Enter.{cellWithFrequency, replaced}
+use Rattle.book.proofs.Areas.{other-frequency}
 use Rattle.built.specs.Ledger.{Entry, frequencyIn, enterIn}
 use Rattle.built.specs.Built.{Tree, Agrees, not-entered, in-record, NodeOf, Words, Records, Built}
 use Rattle.built.proofs.Ledgers.{Compared, same, other, compare-words, entered-has, others-kept, orZero, sum-entered, frequency-most, once-kept}
@@ -29,7 +30,7 @@ use Rattle.built.proofs.Steps.{same-name}
 
 -- a word's record is in use, and holds the ledger's frequency
 pub record-holds : {b : Book} {ledger : List Entry} {word : List ℕ} {n : ℕ} → Agrees b ledger word (Record n)
-    → (n < b .head .records) × (frequencyIn ledger word ≡ some (getD (b .frequencies) n 0))
+    → (n < b .head .records) × (frequencyIn ledger word ≡ some (frequencyAt b n))
 record-holds (in-record h e l) = (h, e)
 
 -- ---- the words after a word has entered
@@ -46,9 +47,9 @@ pub record WordWritten (b b′ : Book) (t t′ : CharTrie) (next : ℕ) (place :
   pub here : wordAt (b′ .head .records) t′ (place m) ≡ Record n
   pub used : n < b′ .head .records
   pub more : b .head .records ≤ b′ .head .records
-  pub its-frequency : getD (b′ .frequencies) n 0 ≡ frequency
+  pub its-frequency : frequencyAt b′ n ≡ frequency
   pub its-logarithm : getD (b′ .logarithms) n nan ≡ logFloat frequency
-  pub frequency-kept : (i : ℕ) → i ≢ n → getD (b′ .frequencies) i 0 ≡ getD (b .frequencies) i 0
+  pub frequency-kept : (i : ℕ) → i ≢ n → frequencyAt b′ i ≡ frequencyAt b i
   pub logarithm-kept : (i : ℕ) → i ≢ n → getD (b′ .logarithms) i nan ≡ getD (b .logarithms) i nan
   pub number-kept : (k : ℕ) → k < next → k ≢ m → wordAt (b .head .records) t (place k) ≢ Bad
       → wordAt (b′ .head .records) t′ (place k) ≡ wordAt (b .head .records) t (place k)
@@ -79,7 +80,7 @@ module _ {b b′ : Book} {ledger : List Entry} {t t′ : CharTrie} {next : ℕ} 
   still-agrees k h ne number e (not-entered f) = not-entered (others-kept ledger word frequency (reverse (name k)) (other-word k h ne) ∙ f)
   still-agrees k h ne number e (in-record {n = i} l f g) =
       let differ : i ≢ n = λ q. w .apart k h ne (e ∙ ap Record q) in
-      let same-frequency : getD (b′ .frequencies) i 0 ≡ getD (b .frequencies) i 0 = w .frequency-kept i differ in
+      let same-frequency : frequencyAt b′ i ≡ frequencyAt b i = w .frequency-kept i differ in
       let more = w .more in
       let within : i < b′ .head .records = omega arith in
       in-record within (others-kept ledger word frequency (reverse (name k)) (other-word k h ne) ∙ f ∙ ap some (sym same-frequency))
@@ -127,18 +128,22 @@ module _ {b b′ : Book} {ledger : List Entry} {t t′ : CharTrie} {next : ℕ} 
 module _ {b : Book} {ledger : List Entry} (built : Built b ledger) (word : List ℕ) (m n frequency total : ℕ) (known : m < b .head .next)
     (named : built .name m ≡ reverse word)
     (its-record : wordAt (b .head .records) (b .trie) (built .place m) ≡ Record n) (agrees : Agrees b ledger word (Record n))
-    (total-is : total ≡ b .head .total - getD (b .frequencies) n 0 + frequency) (total-most : total ≤ greatestTotal) where
+    (total-is : total ≡ b .head .total - frequencyAt b n + frequency) (total-most : total ≤ greatestTotal) where
   abbrev place : ℕ → ParentRef
   place = built .place
 
   used : n < b .head .records
   used = record-holds agrees .0
 
-  old-frequency : frequencyIn ledger word ≡ some (getD (b .frequencies) n 0)
+  old-frequency : frequencyIn ledger word ≡ some (frequencyAt b n)
   old-frequency = record-holds agrees .1
 
-  inside : n < length (b .frequencies)
+  inside : n < length (b .records)
   inside = omega (arith, used, built .records .used)
+
+  -- what is written to the record's cell
+  abbrev cell : ℕ
+  cell = cellWithFrequency (getD (b .records) n 0) frequency
 
   abbrev after : Book
   after = replaced b n frequency total
@@ -149,9 +154,9 @@ module _ {b : Book} {ledger : List Entry} (built : Built b ledger) (word : List 
     here = its-record;
     used = used;
     more = omega arith;
-    its-frequency = getD-set-same (b .frequencies) n frequency 0 inside;
+    its-frequency = ap cellFrequency (getD-set-same (b .records) n cell 0 inside) ∙ other-frequency _ frequency (omega arith);
     its-logarithm = getD-set-same (b .logarithms) n (logFloat frequency) nan (rw (built .records .logarithms) inside);
-    frequency-kept = λ i ne. getD-set-other (b .frequencies) n i frequency 0 ne;
+    frequency-kept = λ i ne. ap cellFrequency (getD-set-other (b .records) n i cell 0 ne);
     logarithm-kept = λ i ne. getD-set-other (b .logarithms) n i (logFloat frequency) nan ne;
     number-kept = λ k h ne good. refl;
     apart = λ k h ne e. ne (built .tables .words .own k m n h known e its-record);
@@ -161,9 +166,9 @@ module _ {b : Book} {ledger : List Entry} (built : Built b ledger) (word : List 
   unfolding replaced
   replaced-records =
       let r = built .records in
-      let long = length-set (b .frequencies) n frequency in
+      let long = length-set (b .records) n cell in
       let sum = sum-entered ledger word frequency in
-      let old : orZero (frequencyIn ledger word) ≡ getD (b .frequencies) n 0 = ap orZero old-frequency in
+      let old : orZero (frequencyIn ledger word) ≡ frequencyAt b n = ap orZero old-frequency in
       let most = frequency-most ledger word in
       record {
         records-least = rw long (r .records-least);

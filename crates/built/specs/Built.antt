@@ -24,7 +24,7 @@ use Rattle.trie.specs.declared.WordNumber.the-variants.{NoWord, Record}
 use Rattle.trie.specs.SlotCounts.{slotCount}
 use Rattle.trie.specs.Trie.{CharTrie, probeOf, nodeAt, openStep, bitsAt, wordAt}
 use Rattle.score.specs.Logarithm.{logFloat}
-use Rattle.book.specs.Returns.{Book, mostRecords, greatestTotal}
+use Rattle.book.specs.Returns.{Book, frequencyAt, mostRecords, greatestTotal}
 use Rattle.book.specs.Enter.{emptySlots}
 use Rattle.built.specs.Ledger.{Entry, frequencyIn, sumOf, EachOnce}
 
@@ -88,8 +88,8 @@ pub record Store (t : CharTrie) (next slots : ℕ) : Type 0 where
 -- frequency and "its logarithm as a double"
 pub data Agrees (b : Book) (ledger : List Entry) (word : List ℕ) : WordNumber → Type 0 where
   not-entered : frequencyIn ledger word ≡ none → Agrees b ledger word NoWord
-  in-record : {n : ℕ} → n < b .head .records → frequencyIn ledger word ≡ some (getD (b .frequencies) n 0)
-      → getD (b .logarithms) n nan ≡ logFloat (getD (b .frequencies) n 0) → Agrees b ledger word (Record n)
+  in-record : {n : ℕ} → n < b .head .records → frequencyIn ledger word ≡ some (frequencyAt b n)
+      → getD (b .logarithms) n nan ≡ logFloat (frequencyAt b n) → Agrees b ledger word (Record n)
 
 -- the node of a word
 pub record NodeOf (next : ℕ) (name : ℕ → List ℕ) (word : List ℕ) : Type 0 where
@@ -107,10 +107,10 @@ pub record Words (b : Book) (ledger : List Entry) (t : CharTrie) (next : ℕ) (n
 
 -- "in a book built by calls the total is the sum over held words"
 pub record Records (b : Book) (ledger : List Entry) : Type 0 where
-  pub records-least : 1 ≤ length (b .frequencies)
-  pub records-most : length (b .frequencies) ≤ mostRecords
-  pub logarithms : length (b .logarithms) ≡ length (b .frequencies)
-  pub used : b .head .records ≤ length (b .frequencies)
+  pub records-least : 1 ≤ length (b .records)
+  pub records-most : length (b .records) ≤ mostRecords
+  pub logarithms : length (b .logarithms) ≡ length (b .records)
+  pub used : b .head .records ≤ length (b .records)
   pub total : b .head .total ≡ sumOf ledger
   pub total-most : b .head .total ≤ greatestTotal
   pub once : EachOnce ledger

@@ -21,7 +21,7 @@ use Rattle.trie.specs.declared.Step.the-variants.{At}
 use Rattle.trie.specs.Trie.{probeOf, openStep, testedStep, walk, getOf}
 use Rattle.score.specs.Logarithm.{logFloat}
 use Rattle.book.specs.declared.Outcome.the-variants.{Damaged}
-use Rattle.book.specs.Returns.{Book, sized, greatestTotal, greatestNext, damagedHead, emptyBook, emptied, prepareOf, lookupOf}
+use Rattle.book.specs.Returns.{Book, frequencyAt, sized, greatestTotal, greatestNext, damagedHead, emptyBook, emptied, prepareOf, lookupOf}
 use Rattle.book.specs.Prefixes.{wordsFrom}
 use Rattle.built.specs.Ledger.{Entry, frequencyIn, sumOf, EachOnce, ledgerLookup, ledgerWords}
 use Rattle.built.specs.Calls.{Call, Answer, answersFrom, allowedSizes, BuiltByCalls}
@@ -36,16 +36,16 @@ BuiltHasInvariant = (b : Book) (ledger : List Entry) → BuiltByCalls b ledger �
 -- what `prepare` leaves of areas of allowed sizes is the empty book, and that is such a book, before any call
 abbrev pub PreparedIsBuilt : Type 0
 PreparedIsBuilt = (b : Book) → sized b ≡ true
-    → (prepareOf (b .trie) (b .frequencies) (b .logarithms)
-    ≡ emptied (emptyBook (length (b .trie .rootChildren)) (length (b .trie .keys)) (length (b .frequencies))))
-    × BuiltByCalls (emptyBook (length (b .trie .rootChildren)) (length (b .trie .keys)) (length (b .frequencies))) []
+    → (prepareOf (b .trie) (b .records) (b .logarithms)
+    ≡ emptied (emptyBook (length (b .trie .rootChildren)) (length (b .trie .keys)) (length (b .records))))
+    × BuiltByCalls (emptyBook (length (b .trie .rootChildren)) (length (b .trie .keys)) (length (b .records))) []
 
 -- ---- the words
 
 -- what a lookup in the trie finds of a word: where the ledger has it with a frequency, a record of that frequency and "its logarithm as a double", and
 -- where the ledger does not have it, nothing. It is never damage.
 pub data HeldAs (b : Book) : Option ℕ → Got → Type 0 where
-  held : {n frequency : ℕ} → n < b .head .records → getD (b .frequencies) n 0 ≡ frequency → getD (b .logarithms) n nan ≡ logFloat frequency
+  held : {n frequency : ℕ} → n < b .head .records → frequencyAt b n ≡ frequency → getD (b .logarithms) n nan ≡ logFloat frequency
       → HeldAs b (some frequency) (Held n)
   absent : HeldAs b none Absent
 

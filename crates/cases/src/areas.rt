@@ -3,13 +3,7 @@ ghost use mathlib.Core.Path.{_≡_};
 ghost use lib.ListN.{length};
 
 // The `ensures` gives only the length, which lending the array as a slice needs.
-pub fn root_children() -> [u32; 65537]
-    ensures { λ r. ⌜ 65537 ≡ length r ⌝ }
-{
-    [7; 65537]
-}
-
-pub fn root_words() -> [i32; 65537]
+pub fn roots() -> [u64; 65537]
     ensures { λ r. ⌜ 65537 ≡ length r ⌝ }
 {
     [7; 65537]

@@ -1,6 +1,6 @@
-//! A case is a text, whose parts have `|` between them: a heading, the lengths of a book's seven areas, and what the program does
-//! with them. Commands are each ended by `;`, and their fields are parted by single spaces. The seven areas of a book cannot stand in
-//! one value, so that every call written out takes a dozen lines; a case is written in a few words.
+//! A case is a text, whose parts have `|` between them: a heading, the lengths of a book's four areas, and what the program does
+//! with them. Commands are each ended by `;`, and their fields are parted by single spaces. The areas of a book cannot stand in one value,
+//! so that every call written out takes many lines; a case is written in a few words.
 ghost use Prim.Native.Nat.{_<_, _≤_};
 ghost use lib.ListN.{length};
 
@@ -107,7 +107,7 @@ pub fn part(case: &[u8], number: u64) -> &[u8] {
     &case[at..end]
 }
 
-// A length of a case's second part, `root R R, slots S S S, records N N`, where the area has so many places.
+// A length of a case's second part, `root R, slots S, records N L`, where the area has so many places.
 pub fn size(case: &[u8], field: u64, places: usize) -> usize
     ensures { λ r. ⌜ r ≤ places ⌝ }
 {

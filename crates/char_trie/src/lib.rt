@@ -1,10 +1,10 @@
 //! Slots by their keys: where a key's probe starts and ends, and one step of a walk, bits first. The counterparts are methods
 //! of the Rust's `CharTrie`. The Rust keeps the shift beside the slots; here it is worked out once a call, from the number of
-//! slots, and lent with their keys.
+//! slots, and lent with them.
 ghost use mathlib.Core.Path.{_≡_};
-ghost use Prim.Native.Nat.{_-_, _*_, _/_, _%_, _^_, _<_};
+ghost use Prim.Native.Nat.{_*_, _/_, _%_, _^_, _<_};
 ghost use lib.ListN.{length};
-ghost use Rattle.trie.specs.Trie.{keyOf, log2, SlotCount, nextSlot, probeOf, emptySlot, stepByProbe, stepFrom};
+ghost use Rattle.trie.specs.Trie.{keyOf, SlotTable, keysOf, nextSlot, probeOf, emptySlot, stepByProbe, stepFrom};
 ghost use Rattle.trie.specs.Lent.{was};
 use trie::ParentRef;
 use trie::Probe;
@@ -34,15 +34,15 @@ fn next_slot(n: usize, i: usize) -> usize
 
 // The slot that holds the (filter-free) key, or the empty slot that its probe meets first. The Rust's probe has no third end:
 // its tables always have an empty slot. Whether a slot is left is asked after one was looked at, and not before the first.
-pub fn probe(keys: &[u64], shift: u32, key: u64) -> Probe
-    requires { ⌜ SlotCount (length (now keys)) ⌝ }
-    requires { ⌜ shift ≡ 64 - log2 (length (now keys)) ⌝ }
-    ensures { λ r. ⌜ r ≡ probeOf (was keys) key ⌝ }
+pub fn probe(slots: &[u64], shift: u32, key: u64) -> Probe
+    requires { ⌜ SlotTable (length (now slots)) shift ⌝ }
+    ensures { λ r. ⌜ r ≡ probeOf (keysOf (was slots)) key ⌝ }
 {
-    let mut left = keys.len();
+    let n = slots.len() / 2;
+    let mut left = n;
     let mut i = index(key, shift);
     loop {
-        let stored = keys[i];
+        let stored = slots[2 * i];
         if stored % KEYS == key {
             return Probe::Found(i);
         }
@@ -53,36 +53,35 @@ pub fn probe(keys: &[u64], shift: u32, key: u64) -> Probe
         if left == 0 {
             return Probe::Endless;
         }
-        i = next_slot(keys.len(), i);
+        i = next_slot(n, i);
     }
 }
 
 // The first empty slot from a key's start on: where a new step goes. It does not look for the key.
-pub fn first_empty(keys: &[u64], shift: u32, key: u64) -> Probe
-    requires { ⌜ SlotCount (length (now keys)) ⌝ }
-    requires { ⌜ shift ≡ 64 - log2 (length (now keys)) ⌝ }
-    ensures { λ r. ⌜ r ≡ emptySlot (was keys) key ⌝ }
+pub fn first_empty(slots: &[u64], shift: u32, key: u64) -> Probe
+    requires { ⌜ SlotTable (length (now slots)) shift ⌝ }
+    ensures { λ r. ⌜ r ≡ emptySlot (keysOf (was slots)) key ⌝ }
 {
-    let mut left = keys.len();
+    let n = slots.len() / 2;
+    let mut left = n;
     let mut i = index(key, shift);
     while 0 < left {
-        if keys[i] == 0 {
+        if slots[2 * i] == 0 {
             return Probe::Empty(i);
         }
-        i = next_slot(keys.len(), i);
+        i = next_slot(n, i);
         left -= 1;
     }
     Probe::Endless
 }
 
 // The step to a child that has a slot: where the probe for its parent's node and its character ends.
-pub fn slot_step(keys: &[u64], shift: u32, node: u32, ch: u32) -> Step
-    requires { ⌜ SlotCount (length (now keys)) ⌝ }
-    requires { ⌜ shift ≡ 64 - log2 (length (now keys)) ⌝ }
+pub fn slot_step(slots: &[u64], shift: u32, node: u32, ch: u32) -> Step
+    requires { ⌜ SlotTable (length (now slots)) shift ⌝ }
     requires { ⌜ (node < 2 ^ 24) × (ch < 2 ^ 21) ⌝ }
-    ensures { λ r. ⌜ r ≡ stepByProbe (probeOf (was keys) (keyOf node ch)) ⌝ }
+    ensures { λ r. ⌜ r ≡ stepByProbe (probeOf (keysOf (was slots)) (keyOf node ch)) ⌝ }
 {
-    match probe(keys, shift, trie::key(node, ch)) {
+    match probe(slots, shift, trie::key(node, ch)) {
         Probe::Found(i) => Step::At(ParentRef::Slot(i)),
         Probe::Empty(_) => Step::Nothing,
         Probe::Endless => Step::Damaged,
@@ -91,11 +90,10 @@ pub fn slot_step(keys: &[u64], shift: u32, node: u32, ch: u32) -> Step
 
 // The slot of the child reached on ch from a node, whose key and child a walk has read. The filters in the spare bits of both
 // reject most absent children before the probe. A root entry has no key: its filter is all ones.
-pub fn step(keys: &[u64], shift: u32, filter: u64, child: u32, ch: u32) -> Step
-    requires { ⌜ SlotCount (length (now keys)) ⌝ }
-    requires { ⌜ shift ≡ 64 - log2 (length (now keys)) ⌝ }
+pub fn step(slots: &[u64], shift: u32, filter: u64, child: u32, ch: u32) -> Step
+    requires { ⌜ SlotTable (length (now slots)) shift ⌝ }
     requires { ⌜ ch < 2 ^ 21 ⌝ }
-    ensures { λ r. ⌜ r ≡ stepFrom (was keys) filter child ch ⌝ }
+    ensures { λ r. ⌜ r ≡ stepFrom (keysOf (was slots)) filter child ch ⌝ }
 {
     let bits = trie::filter_bits(ch);
     if !arith::has_bit_u64(filter, bits.key) {
@@ -104,5 +102,5 @@ pub fn step(keys: &[u64], shift: u32, filter: u64, child: u32, ch: u32) -> Step
     if !arith::has_bit_u32(child, bits.child) {
         return Step::Nothing;
     }
-    slot_step(keys, shift, child % trie::NODES, ch)
+    slot_step(slots, shift, child % trie::NODES, ch)
 }

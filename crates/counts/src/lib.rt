@@ -1,8 +1,9 @@
 //! How a word enters, by counts alone: the total, the records and slots used, the next node. The walk that tells a held word from a
 //! new one, and how much of a new one is there, is behind it (`decision`).
 ghost use mathlib.Core.Path.{_≡_};
-ghost use Prim.Native.Nat.{_≤_};
+ghost use Prim.Native.Nat.{_/_, _%_, _≤_};
 ghost use lib.ListN.{length};
+ghost use Rattle.trie.specs.Trie.{keysOf};
 ghost use Rattle.trie.specs.Lent.{was};
 ghost use Rattle.trie.specs.SlotCounts.{mostSlots};
 ghost use Rattle.book.specs.Returns.{longestText, greatestTotal, greatestNext};
@@ -31,15 +32,15 @@ pub fn decide_held(total: u64, old: u32, n: usize, frequency: u64) -> Decision
 pub fn decide_new(
     head: Head,
     records: usize,
-    keys: &[u64],
+    table: &[u64],
     slots: u64,
     nodes: u64,
     frequency: u64,
 ) -> Decision
-    requires { ⌜ (length (now keys) ≤ mostSlots) × (head .slots ≤ length (now keys)) ⌝ }
+    requires { ⌜ (length (now table) / 2 ≤ mostSlots) × (head .slots ≤ length (now table) / 2) × (length (now table) % 2 ≡ 0) ⌝ }
     requires { ⌜ (head .total ≤ greatestTotal) × (head .next ≤ greatestNext) × (frequency ≤ greatestTotal) ⌝ }
     requires { ⌜ (slots ≤ longestText) × (nodes ≤ longestText) ⌝ }
-    ensures { λ r. ⌜ r ≡ insertBy head records (was keys) slots nodes frequency ⌝ }
+    ensures { λ r. ⌜ r ≡ insertBy head records (keysOf (was table)) slots nodes frequency ⌝ }
 {
     let total = head.total + frequency;
     if book::GREATEST_TOTAL < total {
@@ -48,10 +49,11 @@ pub fn decide_new(
     if records::no_record(head, records) {
         return Decision::Refuse(Outcome::RecordsFull);
     }
-    if keys.len() as u64 * 6 < (head.slots + slots) * 8 {
+    let most = table.len() / 2;
+    if most as u64 * 6 < (head.slots + slots) * 8 {
         return Decision::Refuse(Outcome::SlotsFull);
     }
-    if !empties::has_empty(keys, empties::search_start(head.next, keys.len()), slots) {
+    if !empties::has_empty(table, empties::search_start(head.next, most), slots) {
         return Decision::Refuse(Outcome::Damaged);
     }
     if book::GREATEST_NEXT < head.next + nodes {

@@ -15,34 +15,27 @@ use cuts::Cut;
 // Cuts a sentence into all possible words.
 pub fn cut_all(
     head: Head,
-    root_children: &[u32],
-    root_words: &[i32],
-    keys: &[u64],
-    children: &[u32],
-    words: &[i32],
-    frequencies: &[u32],
+    roots: &[u64],
+    slots: &[u64],
+    records: &[u64],
     logarithms: &[f64],
     sentence: &[u8],
     chars: &mut [u32],
     offsets: &mut [u64],
     tokens: &mut [u32],
 ) -> Cut
-    ensures { λ r. ⌜ cutAnswer r (became tokens) ≡ cutAllOf (bookLent head «root_children» «root_words» keys children words frequencies logarithms)
-        (workLent chars offsets) (was tokens) (was sentence) ⌝ }
-    ensures { λ _. ⌜ (begins (testedBook (bookLent head «root_children» «root_words» keys children words frequencies logarithms))
-        (workLent chars offsets) (was tokens) (was sentence) ≡ false
+    ensures { λ r. ⌜ cutAnswer r (became tokens)
+        ≡ cutAllOf (bookLent head roots slots records logarithms) (workLent chars offsets) (was tokens) (was sentence) ⌝ }
+    ensures { λ _. ⌜ (begins (testedBook (bookLent head roots slots records logarithms)) (workLent chars offsets) (was tokens) (was sentence) ≡ false
         → Unchanged chars × Unchanged offsets) ⌝ }
 {
     let work = sentence::shorter(chars.len(), offsets.len());
     let tested = sentence::begin(
         head,
-        frequencies.len(),
+        records.len(),
         logarithms.len(),
-        root_children.len(),
-        root_words.len(),
-        keys.len(),
-        children.len(),
-        words.len(),
+        roots.len(),
+        slots.len(),
         sentence,
         work,
         tokens.len(),
@@ -54,12 +47,9 @@ pub fn cut_all(
         };
     }
     cut_all_blocks::cut_all_blocks(
-        root_children,
-        root_words,
-        keys,
-        children,
-        words,
-        trie::shift_of(keys.len()),
+        roots,
+        slots,
+        trie::shift_of(slots.len() / 2),
         head.records as usize,
         sentence,
         chars,

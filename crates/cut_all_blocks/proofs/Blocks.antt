@@ -6,7 +6,6 @@ use mathlib.Core.Bool.{Bool, true, false}
 use mathlib.Core.List.{List}
 use mathlib.Core.Option.{IsSome}
 use mathlib.Core.Path.{_≡_, refl}
-use lib.IntN.{ℤ}
 use lib.ListN.{length}
 use Rattle.trie.specs.Trie.{trieOf}
 use Rattle.utf8.specs.Text.{charsOf}
@@ -32,45 +31,45 @@ pub record SameLong (chars chars₀ offsets offsets₀ tokens tokens₀ : List �
 -- ---- the loop
 
 -- where it stands, in each book that has these tables
-abbrev pub Cutting : List ℕ → List ℤ → List ℕ → List ℕ → List ℤ → ℕ → List ℕ → List ℕ → List ℕ → ℕ → ℕ → ℕ → ℕ → Type 0
-Cutting rootChildren rootWords keys children words used =
-    Loop.Cutting CutAll cutAllClass (λ b. SeenAs b (trieOf rootChildren rootWords keys children words) used) (λ b. cutAllBlock (vocabularyOf b))
+abbrev pub Cutting : List ℕ → List ℕ → ℕ → List ℕ → List ℕ → List ℕ → ℕ → ℕ → ℕ → ℕ → Type 0
+Cutting roots slots used =
+    Loop.Cutting CutAll cutAllClass (λ b. SeenAs b (trieOf roots slots) used) (λ b. cutAllBlock (vocabularyOf b))
 
 -- before the first block, where the splitter starts
-pub begins : (rootChildren : List ℕ) (rootWords : List ℤ) (keys children : List ℕ) (words : List ℤ) (used : ℕ) (s tokens : List ℕ) (at : ℕ)
+pub begins : (roots slots : List ℕ) (used : ℕ) (s tokens : List ℕ) (at : ℕ)
     → length s ≤ longestText
     → IsSome (charsOf s)
     → at ≡ 0
-    → Cutting rootChildren rootWords keys children words used s tokens tokens at 0 0 0
+    → Cutting roots slots used s tokens tokens at 0 0 0
 unfolding classOf
-begins rootChildren rootWords keys children words used s tokens at short some-chars starts = Loop.begins s tokens at refl short some-chars starts
+begins roots slots used s tokens at short some-chars starts = Loop.begins s tokens at refl short some-chars starts
 
 -- ---- a block is cut, after so many tokens
 
-pub record BlockCut (rootChildren : List ℕ) (rootWords : List ℤ) (keys children : List ℕ) (words : List ℤ) (used : ℕ)
+pub record BlockCut (roots slots : List ℕ) (used : ℕ)
     (base : ℕ) (matched : Bool) (cs offsets tokens : List ℕ) (count : ℕ) (cut : Cut) (after : List ℕ) : Type 0 where
   pub kept : length after ≡ length tokens
   pub same : (b : Book) (place : Base)
-      → SeenAs b (trieOf rootChildren rootWords keys children words) used
+      → SeenAs b (trieOf roots slots) used
       → Placed place base cs offsets
       → cutAnswer cut after ≡ cutAllBlock (vocabularyOf b) place (blockOf matched cs) (written count tokens)
 
-module _ {rootChildren : List ℕ} {rootWords : List ℤ} {keys children : List ℕ} {words : List ℤ} {used : ℕ}
+module _ {roots slots : List ℕ} {used : ℕ}
     {base : ℕ} {matched : Bool} {cs offsets tokens : List ℕ} {count : ℕ} {cut : Cut} {after : List ℕ} where
   -- what the call answered is what the code goes on with
   pub as-answered : {answered : Cut} {left : List ℕ}
       → after ≡ left
       → cut ≡ answered
-      → BlockCut rootChildren rootWords keys children words used base matched cs offsets tokens count answered left
-      → BlockCut rootChildren rootWords keys children words used base matched cs offsets tokens count cut after
+      → BlockCut roots slots used base matched cs offsets tokens count answered left
+      → BlockCut roots slots used base matched cs offsets tokens count cut after
   as-answered same-area same-cut block = rw (same-area, same-cut) block
 
   -- `cut_all_tokens` has cut it, if it is of the class
   pub matched-cut : matched ≡ true
       → length after ≡ length tokens
-      → ((b : Book) (place : Base) → SeenAs b (trieOf rootChildren rootWords keys children words) used → Placed place base cs offsets
+      → ((b : Book) (place : Base) → SeenAs b (trieOf roots slots) used → Placed place base cs offsets
       → cutAnswer cut after ≡ putWalks place cs 0 (written count tokens) (walksOf (wordsFrom b) 0 cs))
-      → BlockCut rootChildren rootWords keys children words used base matched cs offsets tokens count cut after
+      → BlockCut roots slots used base matched cs offsets tokens count cut after
   unfolding cutAllBlock
   matched-cut is kept walked = record { kept = kept; same = λ b place seen stands. rw is (walked b place seen stands) }
 
@@ -78,6 +77,6 @@ module _ {rootChildren : List ℕ} {rootWords : List ℤ} {keys children : List 
   pub unmatched-cut : matched ≡ false
       → length after ≡ length tokens
       → ((place : Base) → Placed place base cs offsets → cutAnswer cut after ≡ putSpans place cs (written count tokens) (runsOf cs))
-      → BlockCut rootChildren rootWords keys children words used base matched cs offsets tokens count cut after
+      → BlockCut roots slots used base matched cs offsets tokens count cut after
   unfolding cutAllBlock
   unmatched-cut is kept spans = record { kept = kept; same = λ b place seen stands. rw is (spans place stands) }

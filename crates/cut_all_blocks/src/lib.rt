@@ -1,11 +1,10 @@
 //! The blocks of a sentence, one after the other, each with every word of the dictionary that it holds (lib.rs, `cut_all`).
 ghost use mathlib.Core.Path.{_≡_};
 ghost use mathlib.Core.Option.{IsSome};
-ghost use Prim.Native.Nat.{_-_, _≤_, _<_};
+ghost use Prim.Native.Nat.{_≤_, _<_};
 ghost use lib.ListN.{length};
-ghost use Rattle.trie.specs.Trie.{SlotCount, log2};
+ghost use Rattle.trie.specs.Trie.{SlotTable};
 ghost use Rattle.trie.specs.Lent.{was, became, trieLent};
-ghost use Rattle.walk.specs.Walk.{EquallyLong};
 ghost use Rattle.utf8.specs.Text.{charsOf};
 ghost use Rattle.book.specs.Returns.{Book, longestText};
 ghost use Rattle.classes.specs.Blocks.{cutAllClass};
@@ -21,11 +20,8 @@ use runs::CharacterClass;
 
 // The blocks of a sentence, one after the other, up to one that is stopped.
 pub fn cut_all_blocks(
-    root_children: &[u32],
-    root_words: &[i32],
-    keys: &[u64],
-    children: &[u32],
-    words: &[i32],
+    roots: &[u64],
+    slots: &[u64],
     shift: u32,
     used: usize,
     sentence: &[u8],
@@ -33,11 +29,10 @@ pub fn cut_all_blocks(
     offsets: &mut [u64],
     tokens: &mut [u32],
 ) -> Cut
-    requires { ⌜ EquallyLong (now «root_children») (now «root_words») (now keys) (now children) (now words) ⌝ }
-    requires { ⌜ SlotCount (length (now keys)) × (shift ≡ 64 - log2 (length (now keys))) ⌝ }
+    requires { ⌜ SlotTable (length (now slots)) shift ⌝ }
     requires { ⌜ (length (now sentence) ≤ longestText) × IsSome (charsOf (now sentence)) ⌝ }
     requires { ⌜ (length (textFrom (now sentence) 0) < length (now chars)) × (length (textFrom (now sentence) 0) < length (now offsets)) ⌝ }
-    ensures { λ r. ⌜ ((b : Book) → SeenAs b (trieLent «root_children» «root_words» keys children words) used
+    ensures { λ r. ⌜ ((b : Book) → SeenAs b (trieLent roots slots) used
         → cutAnswer r (became tokens) ≡ cutBlocks (cutAllBlock (vocabularyOf b)) start (blocksOf cutAllClass (textFrom (was sentence) 0))
         (written 0 (was tokens))) ⌝ }
 {
@@ -50,11 +45,8 @@ pub fn cut_all_blocks(
         let n = run.chars;
         let cut = if run.matched {
             cut_all_tokens::cut_all_tokens(
-                root_children,
-                root_words,
-                keys,
-                children,
-                words,
+                roots,
+                slots,
                 shift,
                 used,
                 chars,

@@ -7,7 +7,6 @@ use mathlib.Core.Bool.{Bool, true, false, cond}
 use mathlib.Core.List.{List, [], _∷_}
 use mathlib.Core.Path.{_≡_, refl, sym, ap, _∙_}
 use native.Mathlib.Omega.{arith}
-use lib.IntN.{ℤ}
 use lib.ListN.{length, take, drop}
 use lib.Seq.{length-take-le}
 use Rattle.trie.specs.Trie.{trieOf}
@@ -51,29 +50,29 @@ module _ (base : Base) (cs : List ℕ) (at : ℕ) where
 
 -- where it stands: before the position `at`, with so many tokens written. The walks from there on, put after them, come to what all walks of the block
 -- come to, in each book that has these tables, and wherever the block stands
-pub record Positioned (rootChildren : List ℕ) (rootWords : List ℤ) (keys children : List ℕ) (words : List ℤ) (used : ℕ) (chars offsets : List ℕ)
+pub record Positioned (roots slots : List ℕ) (used : ℕ) (chars offsets : List ℕ)
     (n base : ℕ) (tokens₀ : List ℕ) (count₀ : ℕ) (tokens : List ℕ) (count at : ℕ) : Type 0 where
   pub last : at ≤ n
   pub long : length tokens ≡ length tokens₀
   pub same : (b : Book) (place : Base)
-      → SeenAs b (trieOf rootChildren rootWords keys children words) used
+      → SeenAs b (trieOf roots slots) used
       → Placed place base (take n chars) offsets
       → putWalks place (take n chars) at (written count tokens) (walksOf (wordsFrom b) at (drop at (take n chars)))
       ≡ putWalks place (take n chars) 0 (written count₀ tokens₀) (walksOf (wordsFrom b) 0 (take n chars))
 
 -- before the first position
-pub begins : (rootChildren : List ℕ) (rootWords : List ℤ) (keys children : List ℕ) (words : List ℤ) (used : ℕ) (chars offsets : List ℕ)
+pub begins : (roots slots : List ℕ) (used : ℕ) (chars offsets : List ℕ)
     (n base : ℕ) (tokens : List ℕ) (count : ℕ)
-    → Positioned rootChildren rootWords keys children words used chars offsets n base tokens count tokens count 0
-begins rootChildren rootWords keys children words used chars offsets n base tokens count =
+    → Positioned roots slots used chars offsets n base tokens count tokens count 0
+begins roots slots used chars offsets n base tokens count =
     record { last = omega arith; long = refl; same = λ b place seen known. refl }
 
-module _ {rootChildren : List ℕ} {rootWords : List ℤ} {keys children : List ℕ} {words : List ℤ} {used : ℕ} {chars offsets : List ℕ}
+module _ {roots slots : List ℕ} {used : ℕ} {chars offsets : List ℕ}
     {n base : ℕ} {tokens₀ : List ℕ} {count₀ : ℕ} {tokens : List ℕ} {count at : ℕ}
-    (here : Positioned rootChildren rootWords keys children words used chars offsets n base tokens₀ count₀ tokens count at)
+    (here : Positioned roots slots used chars offsets n base tokens₀ count₀ tokens count at)
     (long : n ≤ length chars) where
   abbrev Seen : Book → Type 0
-  Seen b = SeenAs b (trieOf rootChildren rootWords keys children words) used
+  Seen b = SeenAs b (trieOf roots slots) used
 
   -- the block's characters
   abbrev cs : List ℕ
@@ -128,7 +127,7 @@ module _ {rootChildren : List ℕ} {rootWords : List ℤ} {keys children : List 
     -- its words are written
     pub goes-behind : isDone (put .outcome) ≡ true
         → length after ≡ length tokens
-        → Positioned rootChildren rootWords keys children words used chars offsets n base tokens₀ count₀ after (put .count) (at + 1)
+        → Positioned roots slots used chars offsets n base tokens₀ count₀ after (put .count) (at + 1)
     goes-behind done kept =
         record {
           last = omega arith;

@@ -21,14 +21,14 @@ fn print_tokenized(
     command: &[u8],
     answer: Cut,
     head: Head,
-    book_records: usize,
+    records: usize,
     slots: usize,
     chars: &[u32],
     offsets: &[u64],
     starts: &[usize],
     scores: &[f64],
     ends: &[u32],
-    records: &[u32],
+    route_records: &[u32],
     edge_ends: &[u32],
     edge_records: &[u32],
     tokens: &[u32],
@@ -39,7 +39,7 @@ fn print_tokenized(
         starts,
         scores,
         ends,
-        records,
+        route_records,
         edge_ends,
         edge_records,
     );
@@ -48,7 +48,7 @@ fn print_tokenized(
         answer,
         tokens,
         head,
-        book_records,
+        records,
         slots,
         b"work and edges",
         unchanged,
@@ -58,12 +58,9 @@ fn print_tokenized(
 // Cuts in the areas that are lent, and prints the line. The sentence starts at a field of the command.
 fn tokenize_in(
     head: Head,
-    root_children: &[u32],
-    root_words: &[i32],
-    keys: &[u64],
-    children: &[u32],
-    words: &[i32],
-    frequencies: &[u32],
+    roots: &[u64],
+    slots: &[u64],
+    records: &[u64],
     logarithms: &[f64],
     command: &[u8],
     field: u64,
@@ -73,19 +70,16 @@ fn tokenize_in(
     starts: &mut [usize],
     scores: &mut [f64],
     ends: &mut [u32],
-    records: &mut [u32],
+    route_records: &mut [u32],
     edge_ends: &mut [u32],
     edge_records: &mut [u32],
     tokens: &mut [u32],
 ) {
     let answer = tokenize::tokenize(
         head,
-        root_children,
-        root_words,
-        keys,
-        children,
-        words,
-        frequencies,
+        roots,
+        slots,
+        records,
         logarithms,
         script::rest(command, field),
         mode,
@@ -94,7 +88,7 @@ fn tokenize_in(
         starts,
         scores,
         ends,
-        records,
+        route_records,
         edge_ends,
         edge_records,
         tokens,
@@ -103,14 +97,14 @@ fn tokenize_in(
         command,
         answer,
         head,
-        frequencies.len(),
-        keys.len(),
+        records.len(),
+        slots.len() / 2,
         chars,
         offsets,
         starts,
         scores,
         ends,
-        records,
+        route_records,
         edge_ends,
         edge_records,
         tokens,
@@ -120,12 +114,9 @@ fn tokenize_in(
 // `cut` and `find`, and `slices` whose lengths stand apart, each in a field of its own.
 fn tokenize(
     head: Head,
-    root_children: &[u32],
-    root_words: &[i32],
-    keys: &[u64],
-    children: &[u32],
-    words: &[i32],
-    frequencies: &[u32],
+    roots: &[u64],
+    slots: &[u64],
+    records: &[u64],
     logarithms: &[f64],
     command: &[u8],
     apart: u64,
@@ -138,7 +129,7 @@ fn tokenize(
     let starts = script::length(command, 1 + 2 * apart, 64);
     let scores = script::length(command, 1 + 3 * apart, 64);
     let ends = script::length(command, 1 + 4 * apart, 64);
-    let records = script::length(command, 1 + 5 * apart, 64);
+    let route_records = script::length(command, 1 + 5 * apart, 64);
     let edge_ends = script::length(command, 2 + 5 * apart, 64);
     let edge_records = script::length(command, 2 + 6 * apart, 64);
     let tokens = script::length(command, 3 + 6 * apart, 384);
@@ -147,18 +138,15 @@ fn tokenize(
     let mut start_area = [7usize; 64];
     let mut score_area = [7.0f64; 64];
     let mut end_area = [7u32; 64];
-    let mut record_area = [7u32; 64];
+    let mut route_record_area = [7u32; 64];
     let mut edge_end_area = [7u32; 64];
     let mut edge_record_area = [7u32; 64];
     let mut token_area = [7u32; 384];
     tokenize_in(
         head,
-        root_children,
-        root_words,
-        keys,
-        children,
-        words,
-        frequencies,
+        roots,
+        slots,
+        records,
         logarithms,
         command,
         4 + 6 * apart,
@@ -168,7 +156,7 @@ fn tokenize(
         &mut start_area[..starts],
         &mut score_area[..scores],
         &mut end_area[..ends],
-        &mut record_area[..records],
+        &mut route_record_area[..route_records],
         &mut edge_end_area[..edge_ends],
         &mut edge_record_area[..edge_records],
         &mut token_area[..tokens],
@@ -178,12 +166,9 @@ fn tokenize(
 // As `tokenize_in`, for all words.
 fn cut_all_in(
     head: Head,
-    root_children: &[u32],
-    root_words: &[i32],
-    keys: &[u64],
-    children: &[u32],
-    words: &[i32],
-    frequencies: &[u32],
+    roots: &[u64],
+    slots: &[u64],
+    records: &[u64],
     logarithms: &[f64],
     command: &[u8],
     chars: &mut [u32],
@@ -192,12 +177,9 @@ fn cut_all_in(
 ) {
     let answer = cut_all::cut_all(
         head,
-        root_children,
-        root_words,
-        keys,
-        children,
-        words,
-        frequencies,
+        roots,
+        slots,
+        records,
         logarithms,
         script::rest(command, 4),
         chars,
@@ -210,8 +192,8 @@ fn cut_all_in(
         answer,
         tokens,
         head,
-        frequencies.len(),
-        keys.len(),
+        records.len(),
+        slots.len() / 2,
         b"work",
         unchanged,
     );
@@ -220,12 +202,9 @@ fn cut_all_in(
 // `all`
 fn cut_all(
     head: Head,
-    root_children: &[u32],
-    root_words: &[i32],
-    keys: &[u64],
-    children: &[u32],
-    words: &[i32],
-    frequencies: &[u32],
+    roots: &[u64],
+    slots: &[u64],
+    records: &[u64],
     logarithms: &[f64],
     command: &[u8],
 ) {
@@ -237,12 +216,9 @@ fn cut_all(
     let mut token_area = [7u32; 384];
     cut_all_in(
         head,
-        root_children,
-        root_words,
-        keys,
-        children,
-        words,
-        frequencies,
+        roots,
+        slots,
+        records,
         logarithms,
         command,
         &mut char_area[..chars],
@@ -281,12 +257,9 @@ fn mode(name: u8) -> TokenizeMode {
 // Plays one command. The answer is the head for the next one.
 fn turn(
     head: Head,
-    root_children: &[u32],
-    root_words: &[i32],
-    keys: &[u64],
-    children: &[u32],
-    words: &[i32],
-    frequencies: &[u32],
+    roots: &[u64],
+    slots: &[u64],
+    records: &[u64],
     logarithms: &[f64],
     command: &[u8],
 ) -> Head {
@@ -295,27 +268,14 @@ fn turn(
         return stored_head(command);
     }
     if name == b'a' {
-        cut_all(
-            head,
-            root_children,
-            root_words,
-            keys,
-            children,
-            words,
-            frequencies,
-            logarithms,
-            command,
-        );
+        cut_all(head, roots, slots, records, logarithms, command);
         return head;
     }
     tokenize(
         head,
-        root_children,
-        root_words,
-        keys,
-        children,
-        words,
-        frequencies,
+        roots,
+        slots,
+        records,
         logarithms,
         command,
         apart(name),
@@ -327,12 +287,9 @@ fn turn(
 // The cuts of a case one after the other.
 pub fn play(
     head: Head,
-    root_children: &[u32],
-    root_words: &[i32],
-    keys: &[u64],
-    children: &[u32],
-    words: &[i32],
-    frequencies: &[u32],
+    roots: &[u64],
+    slots: &[u64],
+    records: &[u64],
     logarithms: &[f64],
     cuts: &[u8],
 ) {
@@ -341,17 +298,7 @@ pub fn play(
     while at < cuts.len() {
         let end = script::find(cuts, at, b';');
         let next = script::next_command(cuts, at);
-        head = turn(
-            head,
-            root_children,
-            root_words,
-            keys,
-            children,
-            words,
-            frequencies,
-            logarithms,
-            &cuts[at..end],
-        );
+        head = turn(head, roots, slots, records, logarithms, &cuts[at..end]);
         at = next;
     }
 }

@@ -53,7 +53,7 @@ pub fn are_sevens(
     starts: &[usize],
     scores: &[f64],
     ends: &[u32],
-    records: &[u32],
+    route_records: &[u32],
     edge_ends: &[u32],
     edge_records: &[u32],
 ) -> bool {
@@ -62,7 +62,7 @@ pub fn are_sevens(
         & is_sevens_usize(starts)
         & is_sevens_f64(scores)
         & is_sevens(ends)
-        & is_sevens(records)
+        & is_sevens(route_records)
         & is_sevens(edge_ends)
         & is_sevens(edge_records)
 }

@@ -50,28 +50,22 @@ fn loaded(dictionary: &[u8], answer: Loaded) -> Head {
 // Changes a book that is loaded by the stores, and cuts with it.
 fn play_loaded(
     head: Head,
-    root_children: &mut [u32],
-    root_words: &mut [i32],
-    keys: &mut [u64],
-    children: &mut [u32],
-    words: &mut [i32],
-    frequencies: &mut [u32],
+    roots: &mut [u64],
+    slots: &mut [u64],
+    records: &mut [u64],
     logarithms: &mut [f64],
     case: &[u8],
 ) {
     let stores = script::part(case, 3);
     stores::print_stores(stores);
-    stores::play_on_root(root_children, root_words, stores);
-    stores::play_on_slots(keys, children, words, stores);
+    stores::play_on_root(roots, stores);
+    stores::play_on_slots(slots, stores);
     stores::play_on_records(logarithms, stores);
     cutting::play(
         head,
-        root_children,
-        root_words,
-        keys,
-        children,
-        words,
-        frequencies,
+        roots,
+        slots,
+        records,
         logarithms,
         script::part(case, 4),
     );
@@ -80,35 +74,19 @@ fn play_loaded(
 // Loads a book that is prepared, and plays the rest of the case.
 fn play_prepared(
     head: Head,
-    root_children: &mut [u32],
-    root_words: &mut [i32],
-    keys: &mut [u64],
-    children: &mut [u32],
-    words: &mut [i32],
-    frequencies: &mut [u32],
+    roots: &mut [u64],
+    slots: &mut [u64],
+    records: &mut [u64],
     logarithms: &mut [f64],
     case: &[u8],
 ) {
     let dictionary = script::part(case, 2);
-    let answer = dict::load_dict(
-        head,
-        root_children,
-        root_words,
-        keys,
-        children,
-        words,
-        frequencies,
-        logarithms,
-        dictionary,
-    );
+    let answer = dict::load_dict(head, roots, slots, records, logarithms, dictionary);
     play_loaded(
         loaded(dictionary, answer),
-        root_children,
-        root_words,
-        keys,
-        children,
-        words,
-        frequencies,
+        roots,
+        slots,
+        records,
         logarithms,
         case,
     );
@@ -116,60 +94,30 @@ fn play_prepared(
 
 // Prepares a book, and plays the rest of the case.
 fn play(
-    root_children: &mut [u32],
-    root_words: &mut [i32],
-    keys: &mut [u64],
-    children: &mut [u32],
-    words: &mut [i32],
-    frequencies: &mut [u32],
+    roots: &mut [u64],
+    slots: &mut [u64],
+    records: &mut [u64],
     logarithms: &mut [f64],
     case: &[u8],
 ) {
-    let answer = prepare::prepare(
-        root_children,
-        root_words,
-        keys,
-        children,
-        words,
-        frequencies,
-        logarithms,
-    );
-    play_prepared(
-        prepared(answer),
-        root_children,
-        root_words,
-        keys,
-        children,
-        words,
-        frequencies,
-        logarithms,
-        case,
-    );
+    let answer = prepare::prepare(roots, slots, records, logarithms);
+    play_prepared(prepared(answer), roots, slots, records, logarithms, case);
 }
 
 pub fn play_case(case: &[u8]) {
     output::print_heading(case);
-    let root = script::size(case, 1, 65537);
-    let root_words = script::size(case, 2, 65537);
-    let keys = script::size(case, 4, 64);
-    let children = script::size(case, 5, 64);
-    let words = script::size(case, 6, 64);
-    let frequencies = script::size(case, 8, 32);
-    let logarithms = script::size(case, 9, 32);
-    let mut root_area = areas::root_children();
-    let mut root_words_area = areas::root_words();
-    let mut key_area = [7u64; 64];
-    let mut child_area = [7u32; 64];
-    let mut word_area = [7i32; 64];
-    let mut frequency_area = [7u32; 32];
+    let roots = script::size(case, 1, 65537);
+    let slots = script::size(case, 3, 128);
+    let records = script::size(case, 5, 32);
+    let logarithms = script::size(case, 6, 32);
+    let mut root_area = areas::roots();
+    let mut slot_area = [7u64; 128];
+    let mut record_area = [7u64; 32];
     let mut logarithm_area = [7.0f64; 32];
     play(
-        &mut root_area[..root],
-        &mut root_words_area[..root_words],
-        &mut key_area[..keys],
-        &mut child_area[..children],
-        &mut word_area[..words],
-        &mut frequency_area[..frequencies],
+        &mut root_area[..roots],
+        &mut slot_area[..slots],
+        &mut record_area[..records],
         &mut logarithm_area[..logarithms],
         case,
     );

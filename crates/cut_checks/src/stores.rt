@@ -13,23 +13,23 @@ pub fn print_stores(stores: &[u8]) {
 }
 
 // Those of the stores that concern the root table.
-pub fn play_on_root(root_children: &mut [u32], root_words: &mut [i32], stores: &[u8]) {
+pub fn play_on_root(roots: &mut [u64], stores: &[u8]) {
     let mut at: usize = 0;
     while at < stores.len() {
         let end = script::find(stores, at, b';');
         let next = script::next_command(stores, at);
-        stores::store_in_root(root_children, root_words, &stores[at..end]);
+        stores::store_in_root(roots, &stores[at..end]);
         at = next;
     }
 }
 
 // Those that concern the slots.
-pub fn play_on_slots(keys: &mut [u64], children: &mut [u32], words: &mut [i32], stores: &[u8]) {
+pub fn play_on_slots(slots: &mut [u64], stores: &[u8]) {
     let mut at: usize = 0;
     while at < stores.len() {
         let end = script::find(stores, at, b';');
         let next = script::next_command(stores, at);
-        stores::store_in_slots(keys, children, words, &stores[at..end]);
+        stores::store_in_slots(slots, &stores[at..end]);
         at = next;
     }
 }

@@ -1,6 +1,6 @@
 -- `tokenize` by `Search` is `cut_for_search`.
 -- Assumes nothing.
-use mathlib.Core.Path.{_≡_, refl}
+use mathlib.Core.Path.{_≡_}
 use mathlib.Core.List.{List}
 use Prim.Native.Nat.{ℕ}
 use Rattle.book.specs.Returns.{Book}

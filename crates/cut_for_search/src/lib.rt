@@ -14,12 +14,9 @@ use cuts::TokenizeMode;
 // Cuts a sentence into words, before each of them what search finds in it.
 pub fn cut_for_search(
     head: Head,
-    root_children: &[u32],
-    root_words: &[i32],
-    keys: &[u64],
-    children: &[u32],
-    words: &[i32],
-    frequencies: &[u32],
+    roots: &[u64],
+    slots: &[u64],
+    records: &[u64],
     logarithms: &[f64],
     sentence: &[u8],
     chars: &mut [u32],
@@ -27,17 +24,17 @@ pub fn cut_for_search(
     starts: &mut [usize],
     scores: &mut [f64],
     ends: &mut [u32],
-    records: &mut [u32],
+    route_records: &mut [u32],
     edge_ends: &mut [u32],
     edge_records: &mut [u32],
     tokens: &mut [u32],
 ) -> Cut
-    ensures { λ r. ⌜ cutAnswer r (became tokens) ≡ cutForSearchOf (bookLent head «root_children» «root_words» keys children words frequencies logarithms)
-        (workLent chars offsets starts scores ends records) (roomLent «edge_ends» «edge_records») (was tokens) (was sentence) ⌝ }
-    ensures { λ _. ⌜ (begins (testedBook (bookLent head «root_children» «root_words» keys children words frequencies logarithms))
-        (workLent chars offsets starts scores ends records) (was tokens) (was sentence) ≡ false
-        → Unchanged chars × Unchanged offsets × Unchanged starts × Unchanged scores × Unchanged ends × Unchanged records × Unchanged «edge_ends»
-        × Unchanged «edge_records») ⌝ }
+    ensures { λ r. ⌜ cutAnswer r (became tokens) ≡ cutForSearchOf (bookLent head roots slots records logarithms)
+        (workLent chars offsets starts scores ends «route_records») (roomLent «edge_ends» «edge_records») (was tokens) (was sentence) ⌝ }
+    ensures { λ _. ⌜ (begins (testedBook (bookLent head roots slots records logarithms))
+        (workLent chars offsets starts scores ends «route_records») (was tokens) (was sentence) ≡ false
+        → Unchanged chars × Unchanged offsets × Unchanged starts × Unchanged scores × Unchanged ends × Unchanged «route_records»
+        × Unchanged «edge_ends» × Unchanged «edge_records») ⌝ }
 {
     let shortest = sentence::shortest(
         chars.len(),
@@ -45,17 +42,14 @@ pub fn cut_for_search(
         starts.len(),
         scores.len(),
         ends.len(),
-        records.len(),
+        route_records.len(),
     );
     let room = sentence::shorter(edge_ends.len(), edge_records.len());
     cut_sentence::cut_sentence(
         head,
-        root_children,
-        root_words,
-        keys,
-        children,
-        words,
-        frequencies,
+        roots,
+        slots,
+        records,
         logarithms,
         sentence,
         TokenizeMode::Search,
@@ -65,7 +59,7 @@ pub fn cut_for_search(
         starts,
         scores,
         ends,
-        records,
+        route_records,
         edge_ends,
         edge_records,
         room,

@@ -1,6 +1,6 @@
 -- A cut whole: what the tests before it say, and the blocks of the sentence after them.
 -- Assumes nothing.
-use mathlib.Core.Path.{_≡_, refl, sym, ap, _∙_}
+use mathlib.Core.Path.{_≡_, sym, ap, _∙_}
 use mathlib.Core.Bool.{true, false}
 use mathlib.Core.List.{List}
 use mathlib.Core.Option.{IsSome}
@@ -27,25 +27,26 @@ use Rattle.block.specs.Plans.{WorkFits, blockBy}
 use Rattle.cut_sentence.specs.Areas.{workOf}
 
 -- by either mode, block by block after the tests
-by-blocks : (mode : TokenizeMode) (b : Book) (work room : ℕ) (tokens sentence : List ℕ)
+by-blocks : (mode : TokenizeMode) (b : Book) (t : Tested) → t ≡ testedBook b → (work room : ℕ) (tokens sentence : List ℕ)
     → tokenizeOf mode b work room tokens sentence
-    ≡ cutWith (testedBook b) work tokens (λ cs. cutBlocks (blockBy mode (vocabularyOf b) room) start (blocksOf cutClass cs)) sentence
+    ≡ cutWith t work tokens (λ cs. cutBlocks (blockBy mode (vocabularyOf b) room) start (blocksOf cutClass cs)) sentence
 unfolding tokenizeOf cutOf cutForSearchOf blockBy
-by-blocks Default b work room tokens sentence = refl
-by-blocks Search b work room tokens sentence = refl
+by-blocks Default b t of-book work room tokens sentence = rw of-book
+by-blocks Search b t of-book work room tokens sentence = rw of-book
 
-module _ (mode : TokenizeMode) (b : Book) (work room : ℕ) (tokens sentence : List ℕ) (o : Outcome)
-    (tests : answer o (written 0 tokens) ≡ cutWith (testedBook b) work tokens (λ cs. answer Done) sentence) where
-  pub cut-begun : isDone o ≡ true → Begun (testedBook b) work tokens sentence
-  cut-begun done = begun (testedBook b) work tokens sentence o tests done
+-- with the tests of a book, as they are made
+module _ (mode : TokenizeMode) (b : Book) (t : Tested) (of-book : t ≡ testedBook b) (work room : ℕ) (tokens sentence : List ℕ) (o : Outcome)
+    (tests : answer o (written 0 tokens) ≡ cutWith t work tokens (λ cs. answer Done) sentence) where
+  cut-begun : isDone o ≡ true → Begun t work tokens sentence
+  cut-begun done = begun t work tokens sentence o tests done
 
   pub not-begun : isDone o ≡ true → begins (testedBook b) work tokens sentence ≡ false → ⊥
-  not-begun done none-begun = has-begun (testedBook b) work tokens sentence o tests done none-begun
+  not-begun done none-begun = has-begun t work tokens sentence o tests done (rw of-book none-begun)
 
   pub refused-cut : isDone o ≡ false → answer o (written 0 tokens) ≡ tokenizeOf mode b work room tokens sentence
   refused-cut other =
-      refused (testedBook b) work tokens sentence o tests other (λ cs. cutBlocks (blockBy mode (vocabularyOf b) room) start (blocksOf cutClass cs))
-      ∙ sym (by-blocks mode b work room tokens sentence)
+      refused t work tokens sentence o tests other (λ cs. cutBlocks (blockBy mode (vocabularyOf b) room) start (blocksOf cutClass cs))
+      ∙ sym (by-blocks mode b t of-book work room tokens sentence)
 
   pub whole-cut : isDone o ≡ true → (a : CutAnswer)
       → a ≡ cutBlocks (blockBy mode (vocabularyOf b) room) start (blocksOf cutClass (textFrom sentence 0)) (written 0 tokens)
@@ -56,7 +57,7 @@ module _ (mode : TokenizeMode) (b : Book) (work room : ℕ) (tokens sentence : L
       ∙ ap (λ (cs : List ℕ). cutBlocks (blockBy mode (vocabularyOf b) room) start (blocksOf cutClass cs) (written 0 tokens))
       (text-start sentence (began .chars) (began .read))
       ∙ sym (began .cut (λ cs. cutBlocks (blockBy mode (vocabularyOf b) room) start (blocksOf cutClass cs)))
-      ∙ sym (by-blocks mode b work room tokens sentence)
+      ∙ sym (by-blocks mode b t of-book work room tokens sentence)
 
 -- ---- the areas as they are measured before the call: the places used are all there are
 
@@ -98,8 +99,8 @@ module _ (chars offsets starts : List ℕ) (scores : List Float) (ends records :
       }
 
 -- the characters of a sentence that begins to be cut
-pub begun-chars : (b : Book) (work : ℕ) (tokens sentence : List ℕ) → Begun (testedBook b) work tokens sentence → length (textFrom sentence 0) < work
-begun-chars b work tokens sentence began = rw (text-start sentence (began .chars) (began .read)) (began .room)
+pub begun-chars : (t : Tested) (work : ℕ) (tokens sentence : List ℕ) → Begun t work tokens sentence → length (textFrom sentence 0) < work
+begun-chars t work tokens sentence began = rw (text-start sentence (began .chars) (began .read)) (began .room)
 
-pub begun-well-formed : (b : Book) (work : ℕ) (tokens sentence : List ℕ) → Begun (testedBook b) work tokens sentence → IsSome (charsOf sentence)
-begun-well-formed b work tokens sentence began = rw (began .read) tt
+pub begun-well-formed : (t : Tested) (work : ℕ) (tokens sentence : List ℕ) → Begun t work tokens sentence → IsSome (charsOf sentence)
+begun-well-formed t work tokens sentence began = rw (began .read) tt

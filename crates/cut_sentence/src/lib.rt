@@ -17,12 +17,9 @@ use cuts::TokenizeMode;
 // the work and edge slices are not used, and the compiler does not pass them.
 pub fn cut_sentence(
     head: Head,
-    root_children: &[u32],
-    root_words: &[i32],
-    keys: &[u64],
-    children: &[u32],
-    words: &[i32],
-    frequencies: &[u32],
+    roots: &[u64],
+    slots: &[u64],
+    records: &[u64],
     logarithms: &[f64],
     sentence: &[u8],
     mode: TokenizeMode,
@@ -32,40 +29,32 @@ pub fn cut_sentence(
     starts: &mut [usize],
     scores: &mut [f64],
     ends: &mut [u32],
-    records: &mut [u32],
+    route_records: &mut [u32],
     edge_ends: &mut [u32],
     edge_records: &mut [u32],
     room: usize,
     tokens: &mut [u32],
 ) -> Cut
-    requires { ⌜ (work ≤ workOf (now chars) (now offsets) (now starts) (now scores) (now ends) (now records))
+    requires { ⌜ (work ≤ workOf (now chars) (now offsets) (now starts) (now scores) (now ends) (now «route_records»))
         × (room ≤ roomOf (now «edge_ends») (now «edge_records»)) ⌝ }
     ensures { λ r. ⌜ cutAnswer r (became tokens)
-        ≡ tokenizeOf mode (bookLent head «root_children» «root_words» keys children words frequencies logarithms) work room (was tokens)
-        (was sentence) ⌝ }
-    ensures { λ _. ⌜ (begins (testedBook (bookLent head «root_children» «root_words» keys children words frequencies logarithms)) work (was tokens)
-        (was sentence) ≡ false
-        → Unchanged chars × Unchanged offsets × Unchanged starts × Unchanged scores × Unchanged ends × Unchanged records × Unchanged «edge_ends»
-        × Unchanged «edge_records») ⌝ }
+        ≡ tokenizeOf mode (bookLent head roots slots records logarithms) work room (was tokens) (was sentence) ⌝ }
+    ensures { λ _. ⌜ (begins (testedBook (bookLent head roots slots records logarithms)) work (was tokens) (was sentence) ≡ false
+        → Unchanged chars × Unchanged offsets × Unchanged starts × Unchanged scores × Unchanged ends × Unchanged «route_records»
+        × Unchanged «edge_ends» × Unchanged «edge_records») ⌝ }
 {
     // What is only read is lent anew, so that the compiler reads each slice's place and length once, at the call, and passes
     // the two. Else it passes where they are kept, and they are read there each time.
-    let root_children = &*root_children;
-    let root_words = &*root_words;
-    let keys = &*keys;
-    let children = &*children;
-    let words = &*words;
+    let roots = &*roots;
+    let slots = &*slots;
     let logarithms = &*logarithms;
     let sentence = &*sentence;
     let tested = sentence::begin(
         head,
-        frequencies.len(),
+        records.len(),
         logarithms.len(),
-        root_children.len(),
-        root_words.len(),
-        keys.len(),
-        children.len(),
-        words.len(),
+        roots.len(),
+        slots.len(),
         sentence,
         work,
         tokens.len(),
@@ -77,15 +66,12 @@ pub fn cut_sentence(
         };
     }
     blocks::cut_blocks(
-        root_children,
-        root_words,
-        keys,
-        children,
-        words,
+        roots,
+        slots,
         logarithms,
         Plan {
             mode,
-            shift: trie::shift_of(keys.len()),
+            shift: trie::shift_of(slots.len() / 2),
             used: head.records as usize,
             log_total: score::log(head.total as u32),
         },
@@ -95,7 +81,7 @@ pub fn cut_sentence(
         starts,
         scores,
         ends,
-        records,
+        route_records,
         edge_ends,
         edge_records,
         room,

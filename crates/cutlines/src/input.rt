@@ -61,12 +61,9 @@ fn next_place(out: &[u8], end: usize) -> Place
 // Answers the lines that end in a piece of the input, and keeps the beginning of the one that does not.
 fn answer_lines(
     head: Head,
-    root_children: &mut [u32],
-    root_words: &mut [i32],
-    keys: &mut [u64],
-    children: &mut [u32],
-    words: &mut [i32],
-    frequencies: &mut [u32],
+    roots: &mut [u64],
+    slots: &mut [u64],
+    records: &mut [u64],
     logarithms: &mut [f64],
     input: &[u8],
     line: &mut [u8],
@@ -95,12 +92,9 @@ fn answer_lines(
             }
             let answer = answer_line::answer_line(
                 head,
-                root_children,
-                root_words,
-                keys,
-                children,
-                words,
-                frequencies,
+                roots,
+                slots,
+                records,
                 logarithms,
                 &line[..kept],
                 &mut out,
@@ -157,12 +151,9 @@ fn read_block(space: &mut [u8], kept: usize) -> Block
 // Answers the whole input.
 pub fn answer_all(
     head: Head,
-    root_children: &mut [u32],
-    root_words: &mut [i32],
-    keys: &mut [u64],
-    children: &mut [u32],
-    words: &mut [i32],
-    frequencies: &mut [u32],
+    roots: &mut [u64],
+    slots: &mut [u64],
+    records: &mut [u64],
     logarithms: &mut [f64],
 ) {
     let mut space = [0u8; BLOCK];
@@ -177,12 +168,9 @@ pub fn answer_all(
         let end = block.bytes;
         let state = answer_lines(
             head,
-            root_children,
-            root_words,
-            keys,
-            children,
-            words,
-            frequencies,
+            roots,
+            slots,
+            records,
             logarithms,
             &space[..end],
             &mut line,

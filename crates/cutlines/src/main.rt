@@ -18,32 +18,17 @@ const RECORDS: usize = 256;
 
 // One book serves the whole run.
 fn main() {
-    let mut root_children = [0u32; ROOT_ENTRIES];
-    let mut root_words = [0i32; ROOT_ENTRIES];
-    let mut keys = [0u64; SLOTS];
-    let mut children = [0u32; SLOTS];
-    let mut words = [0i32; SLOTS];
-    let mut frequencies = [0u32; RECORDS];
+    let mut roots = [0u64; ROOT_ENTRIES];
+    let mut slots = [0u64; 2 * SLOTS];
+    let mut records = [0u64; RECORDS];
     let mut logarithms = [0.0f64; RECORDS];
     let Prepared::Ready(head) = prepare::prepare(
-        &mut root_children,
-        &mut root_words,
-        &mut keys,
-        &mut children,
-        &mut words,
-        &mut frequencies,
+        &mut roots,
+        &mut slots,
+        &mut records,
         &mut logarithms,
     ) else {
         return;
     };
-    input::answer_all(
-        head,
-        &mut root_children,
-        &mut root_words,
-        &mut keys,
-        &mut children,
-        &mut words,
-        &mut frequencies,
-        &mut logarithms,
-    );
+    input::answer_all(head, &mut roots, &mut slots, &mut records, &mut logarithms);
 }

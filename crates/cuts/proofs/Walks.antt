@@ -1,14 +1,13 @@
 -- The walk from a position of a block, a character at a time, as the code takes it in two loops: one keeps the words that it meets as edges, the other writes
 -- them as tokens. What is kept at each turn is `Walk`: whatever is wanted of the words holds of those that the walk on from the place meets. A turn takes
 -- one character off what is left, by the step that it takes and the word number that it reads there. Assumes nothing.
-use Prim.Native.Nat.{ℕ, _+_, _≤_, _<_}
+use Prim.Native.Nat.{ℕ, _+_, _/_, _≤_, _<_}
 use mathlib.Core.List.{List, [], _∷_}
 use mathlib.Core.Path.{_≡_, sym, ap, subst, _∙_}
 use native.Mathlib.Nat.{le-refl}
 use native.Mathlib.Numerals.{add-one}
 use native.Mathlib.Omega.{arith}
 use lib.Ieee.{nan}
-use lib.IntN.{ℤ}
 use lib.ListN.{length, getD, take, drop, drop-of-length-le}
 use lib.Seq.{drop-cons, getD-take, length-take-le}
 use Rattle.trie.specs.declared.ParentRef.{ParentRef}
@@ -17,7 +16,7 @@ use Rattle.trie.specs.declared.Step.{Step}
 use Rattle.trie.specs.declared.Step.the-variants.{At, Nothing, Damaged}
 use Rattle.trie.specs.declared.WordNumber.{WordNumber}
 use Rattle.trie.specs.declared.WordNumber.the-variants.{NoWord, Record, Bad}
-use Rattle.trie.specs.Trie.{CharTrie, SlotCount, testedStep, wordAt, trieOf}
+use Rattle.trie.specs.Trie.{CharTrie, SlotTable, testedStep, wordAt, trieOf}
 use Rattle.walk.specs.Walk.{Inside}
 use Rattle.walk.proofs.Places.{starts-inside, leads-tested}
 use Rattle.book.specs.Returns.{Book}
@@ -71,29 +70,29 @@ module _ (b : Book) (p : ParentRef) (next : ℕ) (cs : List ℕ) where
 -- where it stands: at a place of the tables, before a character of the block's n. In each book that has these tables, `Wanted` holds of what the walk on
 -- from there meets
 pub record Walk (Wanted : Book → Walked → Type 0)
-    (rootChildren : List ℕ) (rootWords : List ℤ) (keys children : List ℕ) (words : List ℤ) (used : ℕ) (chars : List ℕ)
+    (roots slots : List ℕ) (used : ℕ) (chars : List ℕ)
     (n at : ℕ) (place : ParentRef) (next : ℕ) : Type 0 where
   pub first : at ≤ next
   pub last : next ≤ n
-  pub inside : Inside (length rootChildren) (length keys) place
-  pub wanted : (b : Book) → SeenAs b (trieOf rootChildren rootWords keys children words) used → Wanted b (walkOn b place next (drop next (take n chars)))
+  pub inside : Inside (length roots) (length slots / 2) place
+  pub wanted : (b : Book) → SeenAs b (trieOf roots slots) used → Wanted b (walkOn b place next (drop next (take n chars)))
 
 -- at the root, before the first character
 pub at-root : {Wanted : Book → Walked → Type 0}
-    {rootChildren : List ℕ} {rootWords : List ℤ} {keys children : List ℕ} {words : List ℤ} {used : ℕ} {chars : List ℕ} {n at : ℕ}
+    {roots slots : List ℕ} {used : ℕ} {chars : List ℕ} {n at : ℕ}
     → at < n
-    → ((b : Book) → SeenAs b (trieOf rootChildren rootWords keys children words) used → Wanted b (wordsFrom b at (drop at (take n chars))))
-    → Walk Wanted rootChildren rootWords keys children words used chars n at Root at
+    → ((b : Book) → SeenAs b (trieOf roots slots) used → Wanted b (wordsFrom b at (drop at (take n chars))))
+    → Walk Wanted roots slots used chars n at Root at
 unfolding wordsFrom
 at-root {at = at} more wanted = record { first = le-refl at; last = omega arith; inside = starts-inside _ _; wanted = wanted }
 
 module _ {Wanted : Book → Walked → Type 0}
-    {rootChildren : List ℕ} {rootWords : List ℤ} {keys children : List ℕ} {words : List ℤ} {used : ℕ} {chars : List ℕ}
+    {roots slots : List ℕ} {used : ℕ} {chars : List ℕ}
     {n at : ℕ} {place : ParentRef} {next : ℕ}
-    (here : Walk Wanted rootChildren rootWords keys children words used chars n at place next)
+    (here : Walk Wanted roots slots used chars n at place next)
     (long : n ≤ length chars) where
   abbrev Seen : Book → Type 0
-  Seen b = SeenAs b (trieOf rootChildren rootWords keys children words) used
+  Seen b = SeenAs b (trieOf roots slots) used
 
   -- the block's characters
   abbrev cs : List ℕ
@@ -108,7 +107,7 @@ module _ {Wanted : Book → Walked → Type 0}
 
   -- there is a character, and its step is taken
   module _ {r : Step} (more : next < n)
-      (step : (rootWords′ words′ : List ℤ) → r ≡ testedStep (trieOf rootChildren rootWords′ keys children words′) place (getD chars next 0)) where
+      (step : r ≡ testedStep (trieOf roots slots) place (getD chars next 0)) where
     char : getD cs next 0 ≡ getD chars next 0
     char = getD-take n chars next 0 more
 
@@ -116,7 +115,7 @@ module _ {Wanted : Book → Walked → Type 0}
     in-cs = omega (arith, cs-long)
 
     step-in : (b : Book) → Seen b → r ≡ testedStep (b .trie) place (getD chars next 0)
-    step-in b seen = step rootWords words ∙ ap (λ (t : CharTrie). testedStep t place (getD chars next 0)) (sym (seen .same-trie))
+    step-in b seen = step ∙ ap (λ (t : CharTrie). testedStep t place (getD chars next 0)) (sym (seen .same-trie))
 
     -- no step leads on
     pub at-nothing : r ≡ Nothing → (b : Book) → Seen b → Wanted b ended
@@ -128,8 +127,8 @@ module _ {Wanted : Book → Walked → Type 0}
 
     -- the step leads to a place
     module _ {q : ParentRef} (stepped : r ≡ At q) where
-      pub next-inside : SlotCount (length keys) → Inside (length rootChildren) (length keys) q
-      next-inside allowed = leads-tested rootChildren keys children allowed place q (getD chars next 0) r stepped step
+      pub next-inside : {shift : ℕ} → SlotTable (length slots) shift → Inside (length roots) (length slots / 2) q
+      next-inside {shift} allowed = leads-tested roots slots shift allowed place q (getD chars next 0) r stepped step
 
       -- what the walk on from there meets
       abbrev pub rest : Book → Walked
@@ -137,16 +136,16 @@ module _ {Wanted : Book → Walked → Type 0}
 
       -- the walk goes on from there, and what is wanted holds of what it meets
       pub on-from : {Wanted′ : Book → Walked → Type 0}
-          → SlotCount (length keys)
+          → {shift : ℕ} → SlotTable (length slots) shift
           → ((b : Book) → Seen b → Wanted′ b (rest b))
-          → Walk Wanted′ rootChildren rootWords keys children words used chars n at q (next + 1)
+          → Walk Wanted′ roots slots used chars n at q (next + 1)
       on-from allowed wanted = record { first = omega (arith, here .first); last = omega arith; inside = next-inside allowed; wanted = wanted }
 
       -- the word number there is read
       module _ {number : WordNumber}
-          (read : (rootChildren′ keys′ children′ : List ℕ) → number ≡ wordAt used (trieOf rootChildren′ rootWords keys′ children′ words) q) where
+          (read : number ≡ wordAt used (trieOf roots slots) q) where
         read-in : (b : Book) → Seen b → number ≡ wordAt (b .head .records) (b .trie) q
-        read-in b seen = read rootChildren keys children ∙ rw (seen .same-trie, seen .records)
+        read-in b seen = read ∙ rw (seen .same-trie, seen .records)
 
         -- it is this one
         module _ {known : WordNumber} (e : number ≡ known) where
@@ -159,7 +158,7 @@ module _ {Wanted : Book → Walked → Type 0}
         at-bad e b seen = at-number e b seen
 
         -- no word ends there
-        pub past : SlotCount (length keys) → number ≡ NoWord → Walk Wanted rootChildren rootWords keys children words used chars n at q (next + 1)
+        pub past : {shift : ℕ} → SlotTable (length slots) shift → number ≡ NoWord → Walk Wanted roots slots used chars n at q (next + 1)
         past allowed e = on-from allowed (at-number e)
 
         -- a word ends there

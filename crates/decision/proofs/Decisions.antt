@@ -1,10 +1,10 @@
 -- The decision, by what the walks answer.
 -- Assumes nothing.
-use mathlib.Core.Path.{_≡_, refl, sym, ap, _∙_}
+use mathlib.Core.Path.{_≡_, refl, ap, _∙_}
 use mathlib.Core.Bool.{Bool, true, false, cond}
 use mathlib.Core.List.{List, [], _∷_}
 use mathlib.Core.Option.{Option, none, some, IsSome}
-use Prim.Native.Nat.{ℕ, zero, suc, _+_, _≤_}
+use Prim.Native.Nat.{ℕ, suc, _≤_}
 use native.Mathlib.Omega.{arith}
 use lib.ListN.{length}
 use Rattle.utf8.specs.Text.{charsOf}
@@ -17,7 +17,7 @@ use Rattle.trie.specs.declared.Step.{Step}
 use Rattle.trie.specs.declared.Step.the-variants.{At, Nothing, Damaged}
 use Rattle.trie.specs.declared.WordNumber.{WordNumber}
 use Rattle.trie.specs.declared.WordNumber.the-variants.{NoWord, Record, Bad}
-use Rattle.trie.specs.Trie.{CharTrie, openStep, fromRoot, wordAt, Reach, Reached, NoEnd, reach, newSlots, newNodes, getOf}
+use Rattle.trie.specs.Trie.{CharTrie, openStep, fromRoot, wordAt, Reach, Reached, NoEnd, reach, newSlots, getOf}
 use Rattle.walk.specs.declared.Room.{Room}
 use Rattle.walk.specs.declared.Room.the-variants.{Whole, Partly}
 use Rattle.walk.specs.Walk.{gotOf, newSteps, roomAt, roomFrom, roomOf}

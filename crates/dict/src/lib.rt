@@ -1,6 +1,6 @@
 //! Loading a dictionary into a book, line by line (lib.rs, `load_dict`).
 //!
-//! The Rust grows its tables. Here a book is seven lent slices and a head by value, which goes in and comes back with the
+//! The Rust grows its tables. Here a book is four lent slices and a head by value, which goes in and comes back with the
 //! answer. The sizes of what is lent are tested, and nothing is required of the caller.
 ghost use mathlib.Core.Path.{_≡_};
 ghost use Rattle.trie.specs.Lent.{was};
@@ -14,29 +14,18 @@ use load_lines::Loaded;
 // Loads a dictionary by adding its entries to the book: a word, its frequency and anything more on each line.
 pub fn load_dict(
     head: Head,
-    root_children: &mut [u32],
-    root_words: &mut [i32],
-    keys: &mut [u64],
-    children: &mut [u32],
-    words: &mut [i32],
-    frequencies: &mut [u32],
+    roots: &mut [u64],
+    slots: &mut [u64],
+    records: &mut [u64],
     logarithms: &mut [f64],
     text: &[u8],
 ) -> Loaded
-    ensures { λ r. ⌜ loadAnswer (r .outcome) (r .line) (bookLeft (r .head) «root_children» «root_words» keys children words frequencies logarithms)
-        ≡ loadOf (bookLent head «root_children» «root_words» keys children words frequencies logarithms) (was text) ⌝ }
+    ensures { λ r. ⌜ loadAnswer (r .outcome) (r .line) (bookLeft (r .head) roots slots records logarithms)
+        ≡ loadOf (bookLent head roots slots records logarithms) (was text) ⌝ }
     ensures { λ r. ⌜ loadedReturns (r .outcome) (r .line)
-        ≡ loadReturns (bookLent head «root_children» «root_words» keys children words frequencies logarithms) (was text) ⌝ }
+        ≡ loadReturns (bookLent head roots slots records logarithms) (was text) ⌝ }
 {
-    if !book::is_allowed(
-        root_children.len(),
-        root_words.len(),
-        keys.len(),
-        children.len(),
-        words.len(),
-        frequencies.len(),
-        logarithms.len(),
-    ) {
+    if !book::is_allowed(roots.len(), slots.len(), records.len(), logarithms.len()) {
         return Loaded {
             outcome: Outcome::BadAreas,
             line: 0,
@@ -50,17 +39,6 @@ pub fn load_dict(
             head,
         };
     }
-    let shift = trie::shift_of(keys.len());
-    load_lines::load_lines(
-        head,
-        root_children,
-        root_words,
-        keys,
-        children,
-        words,
-        frequencies,
-        logarithms,
-        shift,
-        text,
-    )
+    let shift = trie::shift_of(slots.len() / 2);
+    load_lines::load_lines(head, roots, slots, records, logarithms, shift, text)
 }

@@ -3,13 +3,15 @@
 use mathlib.Core.Path.{_≡_, refl, sym, ap, _∙_}
 use mathlib.Core.Bool.{Bool, true, false, not, cond}
 use mathlib.Core.List.{List, [], _∷_, _++_}
-use Prim.Native.Nat.{ℕ, zero, suc, _+_, _-_, _<_, _≤_}
+use Prim.Native.Nat.{ℕ, zero, suc, _+_, _-_, _*_, _/_, _%_, _<_, _≤_}
 use native.Mathlib.Numerals.{add-one}
 use native.Mathlib.Omega.{arith}
 use borrow.Author.Tests.{lt-ltb, le-ltb, le-leb, lt-leb, leb-true, leb-false, eq-eqb, ne-eqb, not-true, not-false}
 use lib.Dec.{leb, ltb, eqb}
 use lib.ListN.{length, getD, take, drop, length-drop, drop-of-length-le, take-append-drop}
-use lib.Seq.{drop-cons, take-length}
+use lib.Seq.{drop-cons, take-length, length-take-le}
+use Rattle.trie.specs.Trie.{keysOf}
+use Rattle.trie.proofs.Packed.{keys-whole, keys-after, keys-before}
 use Rattle.book.specs.Enter.{emptySlots}
 
 -- ---- the loop
@@ -32,16 +34,18 @@ module _ (keys : List ℕ) (i left r : ℕ) (same : wantedFrom keys i left ≡ r
     unfolding emptySlots
     here = ap emptySlots (drop-cons keys i 0 h) ∙ rw (add-one i)
 
-    pub one-found : getD keys i 0 ≡ 0 → wantedFrom keys (i + 1) (left - 1) ≡ r
+    pub one-found : (key : ℕ) → key ≡ getD keys i 0 → key ≡ 0 → wantedFrom keys (i + 1) (left - 1) ≡ r
     unfolding wantedFrom
-    one-found e =
+    one-found key read zero-key =
+        let e : getD keys i 0 ≡ 0 = sym read ∙ zero-key in
         let n : emptySlots (drop i keys) ≡ suc (emptySlots (drop (i + 1) keys)) = here ∙ rw (eq-eqb (getD keys i 0) 0 e) in
         let less : left - 1 - emptySlots (drop (i + 1) keys) ≡ left - emptySlots (drop i keys) = omega arith in
         less ∙ same
 
-    pub none-found : (getD keys i 0 ≡ 0 → ⊥) → wantedFrom keys (i + 1) left ≡ r
+    pub none-found : (key : ℕ) → key ≡ getD keys i 0 → (key ≡ 0 → ⊥) → wantedFrom keys (i + 1) left ≡ r
     unfolding wantedFrom
-    none-found e =
+    none-found key read other =
+        let e : getD keys i 0 ≡ 0 → ⊥ = λ (z : getD keys i 0 ≡ 0). other (read ∙ z) in
         let n : emptySlots (drop i keys) ≡ emptySlots (drop (i + 1) keys) = here ∙ rw (ne-eqb (getD keys i 0) 0 e) in
         ap (λ (empty : ℕ). left - empty) (sym n) ∙ same
 
@@ -69,14 +73,39 @@ none-left zero count have e = sym (le-leb count have (omega arith))
 none-left (suc left) count have e = ne-eqb (suc left) 0 (λ z. omega arith) ∙ sym (lt-leb count have (omega arith))
 
 -- what is wanted after the slots from a start on, and then after those before it: all are found where nothing is left
-pub both-parts : (keys : List ℕ) (start count after left : ℕ)
-    → after ≡ count - emptySlots (take (length keys - start) (drop start keys)) → left ≡ after - emptySlots (take start keys)
+in-parts : (keys : List ℕ) (start count after left : ℕ) → after ≡ count - emptySlots (drop start keys) → left ≡ after - emptySlots (take start keys)
     → eqb left 0 ≡ leb count (emptySlots keys)
-both-parts keys start count after left e f =
-    let rest : take (length keys - start) (drop start keys) ≡ drop start keys = rw (← length-drop start keys) (take-length (drop start keys)) in
-    let later : emptySlots (take (length keys - start) (drop start keys)) ≡ emptySlots (drop start keys) = ap emptySlots rest in
+in-parts keys start count after left e f =
     let all : emptySlots keys ≡ emptySlots (take start keys) + emptySlots (drop start keys) = ap emptySlots (sym (take-append-drop start keys)) ∙ joined _ _ in
     none-left left count (emptySlots keys) (omega arith)
+
+-- as the code has the parts: two numbers for each slot
+pub both-parts : (slots : List ℕ) (start count after left : ℕ)
+    → after ≡ count - emptySlots (keysOf (take (length slots - 2 * start) (drop (2 * start) slots)))
+    → left ≡ after - emptySlots (keysOf (take (2 * start) slots)) → eqb left 0 ≡ leb count (emptySlots (keysOf slots))
+both-parts slots start count after left e f =
+    let rest : take (length slots - 2 * start) (drop (2 * start) slots) ≡ drop (2 * start) slots =
+    rw (← length-drop (2 * start) slots) (take-length (drop (2 * start) slots)) in
+    in-parts (keysOf slots) start count after left
+    (rw (rest, keys-after slots start) at e)
+    (rw (keys-before slots start) at f)
+
+pub later-whole : (slots : List ℕ) (start : ℕ) → start ≤ length slots / 2 → length slots % 2 ≡ 0
+    → length (take (length slots - 2 * start) (drop (2 * start) slots)) % 2 ≡ 0
+later-whole slots start h whole =
+    let long : length (take (length slots - 2 * start) (drop (2 * start) slots)) ≡ length slots - 2 * start =
+    length-take-le _ _ (rw (length-drop (2 * start) slots) (omega arith)) in
+    rw long (omega arith)
+
+pub earlier-whole : (slots : List ℕ) (start : ℕ) → start ≤ length slots / 2 → length (take (2 * start) slots) % 2 ≡ 0
+earlier-whole slots start h = rw (length-take-le (2 * start) slots (omega arith)) (omega arith)
+
+-- the loop goes through half as many slots as there are numbers
+pub in-slots : (slots : List ℕ) (i : ℕ) → length slots % 2 ≡ 0 → i < length slots / 2 → i < length (keysOf slots)
+in-slots slots i whole h = rw (keys-whole slots whole) h
+
+pub past-slots : (slots : List ℕ) (i : ℕ) → length slots % 2 ≡ 0 → length slots / 2 ≤ i → length (keysOf slots) ≤ i
+past-slots slots i whole h = rw (keys-whole slots whole) h
 
 -- what `has_empty` answers, as the test that a decision makes
 pub too-few : (r : Bool) (count have : ℕ) → r ≡ leb count have → not r ≡ true → ltb have count ≡ true

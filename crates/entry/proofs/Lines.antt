@@ -10,7 +10,6 @@ use Rattle.lines.specs.Lines.{Meaning, malformed, blank, badFrequency, entry, m
 use Rattle.book.specs.declared.Decision.{Decision}
 use Rattle.book.specs.declared.Decision.the-variants.{Refuse, Replace, Insert}
 use Rattle.book.specs.declared.Outcome.{Outcome}
-use Rattle.book.specs.declared.Outcome.the-variants.{Malformed, BadFrequency}
 use Rattle.book.specs.Returns.{Book, numberOf, isDone}
 use Rattle.book.specs.Enter.{replaced, inserted, LoadAnswer, loadAnswer, enter, loadLines}
 use Rattle.book.proofs.Outcomes.{done-only}

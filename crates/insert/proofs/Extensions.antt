@@ -1,6 +1,6 @@
 -- The steps that are new, a turn of the loop at a time. A turn reads a character and makes its step, as `extend` does with the first of the characters
 -- left. So the extension still to be made stays that of the whole, and where the loop ends it is made. Assumes nothing.
-use Prim.Native.Nat.{ℕ, _+_, _-_, _^_, _≤_, _<_}
+use Prim.Native.Nat.{ℕ, _+_, _-_, _/_, _^_, _≤_, _<_}
 use mathlib.Core.Path.{_≡_, refl, sym, ap, _∙_}
 use mathlib.Core.Logic.{inl, inr}
 use mathlib.Core.List.{List, [], _∷_}
@@ -18,14 +18,12 @@ use Rattle.trie.proofs.Step as Step·type
 use Rattle.trie.specs.declared.ParentRef.{ParentRef}
 use Rattle.trie.specs.declared.Step.{Step}
 use Rattle.trie.specs.declared.Step.the-variants.{At, Nothing, Damaged}
-use Rattle.trie.specs.Trie.{CharTrie, SlotCount, withWord, extend}
+use Rattle.trie.specs.Trie.{CharTrie, trieOf, SlotTable, withWord, extend}
 use Rattle.walk.specs.Walk.{Inside}
 use Rattle.walk.proofs.Places.{inside-same}
 use Rattle.insert.specs.Insert.{characters, Stepped, stepped, newStep, extendStepped}
-use Rattle.insert.specs.Claims.{SameLengths}
-use Rattle.insert.proofs.Lengths.{same-lengths, then-same, new-step-keeps}
 use Rattle.insert.proofs.NewSteps.{new-inside, extend-end, extend-steps-then-extends}
-use Rattle.insert.proofs.Sizes.{slots-same}
+use Rattle.insert.proofs.Sizes.{table-same}
 use Rattle.insert.proofs.Words.{no-more, one-more}
 
 -- ---- the extension by a word, by the step of its first character
@@ -52,41 +50,55 @@ module _ (t : CharTrie) (p : ParentRef) (c : ℕ) (cs word : List ℕ) (node : �
 -- ---- the loop
 
 -- where it stands: at a place and a position from which the extension still to be made comes to the goal
-pub record Extending (t₀ : CharTrie) (s : List ℕ) (number : ℤ) (goal t : CharTrie) (p : ParentRef) (at node : ℕ) : Type 0 where
-  pub long : SameLengths t t₀
-  pub inside : Inside (length (t₀ .rootChildren)) (length (t₀ .keys)) p
+pub record Extending (roots₀ slots₀ s : List ℕ) (number : ℤ) (goal : CharTrie) (roots slots : List ℕ) (p : ParentRef) (at node : ℕ) : Type 0 where
+  pub entries : length roots ≡ length roots₀
+  pub numbers : length slots ≡ length slots₀
+  pub inside : Inside (length roots₀) (length slots₀ / 2) p
   pub well-formed : IsSome (charsFrom s at)
   pub room : node + (length s - at) < 2 ^ 32
-  pub same : extend t p (characters (drop at s)) node number ≡ goal
+  pub same : extend (trieOf roots slots) p (characters (drop at s)) node number ≡ goal
 
-pub begins : (t : CharTrie) (s : List ℕ) (number : ℤ) (p : ParentRef) (at node : ℕ) → Inside (length (t .rootChildren)) (length (t .keys)) p
+pub begins : (roots slots s : List ℕ) (number : ℤ) (p : ParentRef) (at node : ℕ) → Inside (length roots) (length slots / 2) p
     → IsSome (charsOf (drop at s)) → node + length s < 2 ^ 32
-    → Extending t s number (extend t p (characters (drop at s)) node number) t p at node
+    → Extending roots slots s number (extend (trieOf roots slots) p (characters (drop at s)) node number) roots slots p at node
 unfolding charsFrom
-begins t s number p at node inside well-formed room =
-    record { long = same-lengths t; inside = inside; well-formed = well-formed; room = omega arith; same = refl }
+begins roots slots s number p at node inside well-formed room =
+    record { entries = refl; numbers = refl; inside = inside; well-formed = well-formed; room = omega arith; same = refl }
 
-module _ {t₀ : CharTrie} {s : List ℕ} {number : ℤ} {goal t : CharTrie} {p : ParentRef} {at node : ℕ} (here : Extending t₀ s number goal t p at node) where
+module _ {roots₀ slots₀ s : List ℕ} {number : ℤ} {goal : CharTrie} {roots slots : List ℕ} {p : ParentRef} {at node : ℕ}
+    (here : Extending roots₀ slots₀ s number goal roots slots p at node) where
+  abbrev t : CharTrie
+  t = trieOf roots slots
+
+  -- the tables are as long as they were
+  pub still-inside : Inside (length roots) (length slots / 2) p
+  still-inside = inside-same _ _ _ _ p (here .entries) (here .numbers) (here .inside)
+
+  pub still-table : {shift : ℕ} → SlotTable (length slots₀) shift → SlotTable (length slots) shift
+  still-table {shift} table = table-same _ _ shift (here .numbers) table
+
   pub ends : (u : CharTrie) → length s ≤ at → u ≡ withWord t p number → u ≡ goal
   ends u past named = named ∙ sym (ap (λ (l : List ℕ). extend t p l node number) (no-more s at past) ∙ extend-end t p node number) ∙ here .same
 
-  module _ {c w units : ℕ} (read : characterAt s at ≡ Char c w units) {next : Step} {u : CharTrie} (made : stepped next u ≡ newStep t p c node) where
+  module _ {c w units : ℕ} (read : characterAt s at ≡ Char c w units) {next : Step} (roots′ slots′ : List ℕ)
+      (made : stepped next (trieOf roots′ slots′) ≡ newStep t p c node) where
     split : characters (drop at s) ≡ c ∷ characters (drop (at + w) s)
     split = one-more s at (here .well-formed) c w units read
 
-    pub stops : OneOf (1 ∷ 2 ∷ []) (tagOf Step·type.the-type next) → u ≡ goal
-    stops other = extend-stops t p c _ _ node number split next u made other ∙ here .same
+    pub stops : OneOf (1 ∷ 2 ∷ []) (tagOf Step·type.the-type next) → trieOf roots′ slots′ ≡ goal
+    stops other = extend-stops t p c _ _ node number split next (trieOf roots′ slots′) made other ∙ here .same
 
-    pub goes-on : {q : ParentRef} → SlotCount (length (t₀ .keys)) → next ≡ At q → Extending t₀ s number goal u q (at + w) (node + 1)
-    goes-on {q} allowed e =
+    pub goes-on : {q : ParentRef} {shift : ℕ} → length roots′ ≡ length roots → length slots′ ≡ length slots → SlotTable (length slots₀) shift → next ≡ At q
+        → Extending roots₀ slots₀ s number goal roots′ slots′ q (at + w) (node + 1)
+    goes-on {q} {shift} more numbers table e =
         let width = inside s at c w units read in
         let room = here .room in
-        let longer : SameLengths u t = rw (ap (λ (x : Stepped). x .trie) made) (new-step-keeps t p c node) in
         record {
-          long = then-same longer (here .long);
-          inside = inside-same _ _ _ _ q (sym (here .long .rootChildren)) (sym (here .long .keys))
-              (new-inside t p c node (slots-same _ _ (here .long .keys) allowed) next u q made e);
+          entries = more ∙ here .entries;
+          numbers = numbers ∙ here .numbers;
+          inside = inside-same _ _ _ _ q (sym (here .entries)) (sym (here .numbers))
+              (new-inside roots slots shift (still-table table) p c node next (trieOf roots′ slots′) q made e);
           well-formed = still-chars s at (here .well-formed) c w units read;
           room = omega arith;
-          same = extend-on t p c _ _ node number split next u q made e ∙ here .same;
+          same = extend-on t p c _ _ node number split next (trieOf roots′ slots′) q made e ∙ here .same;
         }

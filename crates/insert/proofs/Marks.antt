@@ -2,7 +2,7 @@
 -- `mark` does with the first of the characters left. So the marks still to be made stay those of the whole word, and where the loop ends they are
 -- made. Insertion follows the same steps, so that after them only an extension is left.
 -- Assumes nothing.
-use Prim.Native.Nat.{ℕ, _+_, _≤_}
+use Prim.Native.Nat.{ℕ, _+_, _/_, _≤_}
 use mathlib.Core.Path.{_≡_, refl, sym, ap, _∙_}
 use mathlib.Core.List.{List, [], _∷_}
 use mathlib.Core.Option.{IsSome}
@@ -16,15 +16,14 @@ use Rattle.trie.specs.declared.ParentRef.{ParentRef}
 use Rattle.trie.specs.declared.ParentRef.the-variants.{Root}
 use Rattle.trie.specs.declared.Step.{Step}
 use Rattle.trie.specs.declared.Step.the-variants.{At, Nothing, Damaged}
-use Rattle.trie.specs.Trie.{trieOf, CharTrie, SlotCount, openStep, Reached, NoEnd, withBits, extend, insert}
+use Rattle.trie.specs.Trie.{trieOf, CharTrie, SlotTable, openStep, Reached, NoEnd, withBits, extend, insert}
 use Rattle.walk.specs.Walk.{Inside}
 use Rattle.walk.proofs.Places.{starts-inside, inside-same, leads-open}
 use Rattle.insert.specs.declared.Marked.{Marked}
 use Rattle.insert.specs.declared.Marked.the-variants.{UpTo}
 use Rattle.insert.specs.Insert.{characters, MarkedTrie, marked, mark, extendMarked, reachOf, Ready}
 use Rattle.insert.specs.Claims.{InsertMarksThenExtends}
-use Rattle.insert.proofs.Lengths.{bits-keep}
-use Rattle.insert.proofs.Sizes.{slots-same}
+use Rattle.insert.proofs.Sizes.{table-same}
 use Rattle.insert.proofs.Words.{no-more, one-more}
 
 -- ---- the marks of a word, by the step of its first character
@@ -49,64 +48,57 @@ mark-end t p word e = rw e
 -- ---- the loop
 
 -- where it stands: at a place and a position from which the marks still to be made are those of the whole word
-pub record Marking (rootChildren₀ keys₀ children₀ s rootChildren keys children : List ℕ) (p : ParentRef) (at : ℕ) : Type 0 where
-  pub entries : length rootChildren ≡ length rootChildren₀
-  pub slots : length keys ≡ length keys₀
-  pub child-slots : length children ≡ length children₀
-  pub inside : Inside (length rootChildren₀) (length keys₀) p
+pub record Marking (roots₀ slots₀ s roots slots : List ℕ) (p : ParentRef) (at : ℕ) : Type 0 where
+  pub entries : length roots ≡ length roots₀
+  pub numbers : length slots ≡ length slots₀
+  pub inside : Inside (length roots₀) (length slots₀ / 2) p
   pub well-formed : IsSome (charsFrom s at)
-  pub same : (rootWords words : List ℤ) → mark (trieOf rootChildren rootWords keys children words) p (characters (drop at s))
-      ≡ mark (trieOf rootChildren₀ rootWords keys₀ children₀ words) Root (characters s)
+  pub same : mark (trieOf roots slots) p (characters (drop at s)) ≡ mark (trieOf roots₀ slots₀) Root (characters s)
 
-pub begins : (rootChildren keys children s : List ℕ) → IsSome (charsOf s) → Marking rootChildren keys children s rootChildren keys children Root 0
+pub begins : (roots slots s : List ℕ) → IsSome (charsOf s) → Marking roots slots s roots slots Root 0
 unfolding charsFrom
-begins rootChildren keys children s whole = record
-    { entries = refl; slots = refl; child-slots = refl; inside = starts-inside _ _; well-formed = whole; same = λ rootWords words. refl }
+begins roots slots s whole = record { entries = refl; numbers = refl; inside = starts-inside _ _; well-formed = whole; same = refl }
 
 -- what the function ensures, where it ends with r
-abbrev Marks : List ℕ → List ℕ → List ℕ → List ℕ → List ℕ → List ℕ → List ℕ → Marked → Type 0
-Marks rootChildren₀ keys₀ children₀ s rootChildren keys children r =
-    Ready (length rootChildren₀) (length keys₀) s r
-    × ((rootWords words : List ℤ) → marked (reachOf s r) (trieOf rootChildren rootWords keys children words)
-    ≡ mark (trieOf rootChildren₀ rootWords keys₀ children₀ words) Root (characters s))
+abbrev Marks : List ℕ → List ℕ → List ℕ → List ℕ → List ℕ → Marked → Type 0
+Marks roots₀ slots₀ s roots slots r =
+    Ready (length roots₀) (length slots₀) s r × (marked (reachOf s r) (trieOf roots slots) ≡ mark (trieOf roots₀ slots₀) Root (characters s))
 
-module _ {rootChildren₀ keys₀ children₀ s rootChildren keys children : List ℕ} {p : ParentRef} {at : ℕ}
-    (here : Marking rootChildren₀ keys₀ children₀ s rootChildren keys children p at) where
-  pub ends : length s ≤ at → Marks rootChildren₀ keys₀ children₀ s rootChildren keys children (UpTo p at)
+module _ {roots₀ slots₀ s roots slots : List ℕ} {p : ParentRef} {at : ℕ} (here : Marking roots₀ slots₀ s roots slots p at) where
+  pub ends : length s ≤ at → Marks roots₀ slots₀ s roots slots (UpTo p at)
   unfolding Ready reachOf charsFrom
-  ends past = ((here .inside, here .well-formed), λ rootWords words. mark-end _ p _ (no-more s at past) ∙ here .same rootWords words)
+  ends past = ((here .inside, here .well-formed), mark-end _ p _ (no-more s at past) ∙ here .same)
 
-  module _ {c w u : ℕ} (read : characterAt s at ≡ Char c w u) {next : Step}
-      (opened : (rootWords words : List ℤ) → next ≡ openStep (trieOf rootChildren rootWords keys children words) p c) where
+  -- the tables are as long as they were
+  pub still-inside : Inside (length roots) (length slots / 2) p
+  still-inside = inside-same _ _ _ _ p (here .entries) (here .numbers) (here .inside)
+
+  pub still-table : {shift : ℕ} → SlotTable (length slots₀) shift → SlotTable (length slots) shift
+  still-table {shift} table = table-same _ _ shift (here .numbers) table
+
+  module _ {c w u : ℕ} (read : characterAt s at ≡ Char c w u) {next : Step} (opened : next ≡ openStep (trieOf roots slots) p c) where
     split : characters (drop at s) ≡ c ∷ characters (drop (at + w) s)
     split = one-more s at (here .well-formed) c w u read
 
-    pub ends-absent : next ≡ Nothing → Marks rootChildren₀ keys₀ children₀ s rootChildren keys children (UpTo p at)
+    pub ends-absent : next ≡ Nothing → Marks roots₀ slots₀ s roots slots (UpTo p at)
     unfolding Ready reachOf charsFrom
-    ends-absent e = (
-      (here .inside, here .well-formed),
-      λ rootWords words. mark-absent _ p c _ _ split next (opened rootWords words) e
-          ∙ here .same rootWords words,
-    )
+    ends-absent e = ((here .inside, here .well-formed), mark-absent _ p c _ _ split next opened e ∙ here .same)
 
-    pub ends-damaged : next ≡ Damaged → Marks rootChildren₀ keys₀ children₀ s rootChildren keys children Marked.Damaged
+    pub ends-damaged : next ≡ Damaged → Marks roots₀ slots₀ s roots slots Marked.Damaged
     unfolding Ready reachOf
-    ends-damaged e = (tt, λ rootWords words. mark-damaged _ p c _ _ split next (opened rootWords words) e ∙ here .same rootWords words)
+    ends-damaged e = (tt, mark-damaged _ p c _ _ split next opened e ∙ here .same)
 
-    module _ (rootChildren′ keys′ children′ : List ℕ)
-        (bits : (rootWords words : List ℤ) → trieOf rootChildren′ rootWords keys′ children′ words
-        ≡ withBits (trieOf rootChildren rootWords keys children words) p c) where
-      pub goes-on : {q : ParentRef} → SlotCount (length keys₀) → next ≡ At q → Marking rootChildren₀ keys₀ children₀ s rootChildren′ keys′ children′ q (at + w)
-      goes-on {q} allowed e =
-          let kept = bits-keep (trieOf rootChildren [] keys children []) p c in
-          let below = leads-open rootChildren keys children (slots-same _ _ (here .slots) allowed) p q c next e opened in
+    module _ (roots′ slots′ : List ℕ) (bits : trieOf roots′ slots′ ≡ withBits (trieOf roots slots) p c) where
+      pub goes-on : {q : ParentRef} {shift : ℕ} → length roots′ ≡ length roots → length slots′ ≡ length slots → SlotTable (length slots₀) shift → next ≡ At q
+          → Marking roots₀ slots₀ s roots′ slots′ q (at + w)
+      goes-on {q} {shift} more numbers table e =
+          let below = leads-open roots slots shift (still-table table) p q c next e opened in
           record {
-            entries = ap (λ (t : CharTrie). length (t .rootChildren)) (bits [] []) ∙ kept .rootChildren ∙ here .entries;
-            slots = ap (λ (t : CharTrie). length (t .keys)) (bits [] []) ∙ kept .keys ∙ here .slots;
-            child-slots = ap (λ (t : CharTrie). length (t .children)) (bits [] []) ∙ kept .children ∙ here .child-slots;
-            inside = inside-same _ _ _ _ q (sym (here .entries)) (sym (here .slots)) below;
+            entries = more ∙ here .entries;
+            numbers = numbers ∙ here .numbers;
+            inside = inside-same _ _ _ _ q (sym (here .entries)) (sym (here .numbers)) below;
             well-formed = still-chars s at (here .well-formed) c w u read;
-            same = λ rootWords words. mark-there _ p c _ _ split next (opened rootWords words) q _ e (bits rootWords words) ∙ here .same rootWords words;
+            same = mark-there _ p c _ _ split next opened q _ e bits ∙ here .same;
           }
 
 -- ---- what is left after them
@@ -137,8 +129,8 @@ module _ (t u : CharTrie) (s word : List ℕ) (r : Marked) (node : ℕ) (number 
       ∙ ap (λ (m : MarkedTrie). extendMarked m node number) marks ∙ sym (insert-marks-then-extends t Root word node number)
 
 -- a place and a position that the marks end at
-module _ (entries slots : ℕ) (s : List ℕ) (r : Marked) (ready : Ready entries slots s r) (p : ParentRef) (at : ℕ) (e : r ≡ UpTo p at) where
-  pub place-ready : Inside entries slots p
+module _ (entries numbers : ℕ) (s : List ℕ) (r : Marked) (ready : Ready entries numbers s r) (p : ParentRef) (at : ℕ) (e : r ≡ UpTo p at) where
+  pub place-ready : Inside entries (numbers / 2) p
   unfolding Ready
   place-ready = (rw e at ready) .0
 

@@ -1,7 +1,7 @@
 -- New steps. The code's tests and its search for an empty slot are the cases of `newStep`; where it leads is an entry that the test has compared with the
 -- root's length, or the slot that was found, which is one of the slots. An extension is one such step and an extension from where it leads.
 -- Assumes nothing.
-use Prim.Native.Nat.{ℕ, _+_, _<_}
+use Prim.Native.Nat.{ℕ, _+_, _/_, _<_}
 use mathlib.Core.Path.{_≡_, refl, sym, ap, subst, _∙_}
 use mathlib.Core.Bool.{Bool, true, false, cond}
 use mathlib.Core.Logic.{inl, inr}
@@ -18,10 +18,11 @@ use Rattle.trie.specs.declared.Probe.{Probe}
 use Rattle.trie.specs.declared.Probe.the-variants.{Found, Empty, Endless}
 use Rattle.trie.specs.declared.Step.{Step}
 use Rattle.trie.specs.declared.Step.the-variants.{At, Damaged}
-use Rattle.trie.specs.Trie.{CharTrie, SlotCount, keyOf, nodeAt, fromRoot, emptySlot, withBits, withWord, newRootEntry, newSlot, extend}
+use Rattle.trie.specs.Trie.{CharTrie, keysOf, trieOf, SlotCount, SlotTable, keyOf, nodeAt, fromRoot, emptySlot, withBits, withWord, newRootEntry, newSlot, extend}
+use Rattle.trie.proofs.Packed.{keys-whole}
 use Rattle.trie.proofs.Probes.{empty-slot-is-empty}
 use Rattle.walk.specs.Walk.{Inside}
-use Rattle.walk.proofs.Places.{only-first, LeadsInside}
+use Rattle.walk.proofs.Places.{only-first, LeadsInside, counted, inside-lent}
 use Rattle.insert.specs.Insert.{Stepped, stepped, newStepBy, newStep, extendStepped}
 use Rattle.insert.specs.Claims.{ExtendStepsThenExtends}
 
@@ -37,8 +38,10 @@ not-empty (Empty i) t p ch node (inr h) = absurd (omega arith)
 not-empty Endless t p ch node h = refl
 
 -- an empty slot that it ends at is one of the slots
-pub empty-below : (keys : List ℕ) (key i : ℕ) (r : Probe) → SlotCount (length keys) → r ≡ emptySlot keys key → r ≡ Empty i → i < length keys
-empty-below keys key i r allowed searched empty = empty-slot-is-empty keys key i allowed (sym searched ∙ empty) .0
+pub empty-below : (slots : List ℕ) (shift : ℕ) → SlotTable (length slots) shift → (key i : ℕ) (r : Probe) → r ≡ emptySlot (keysOf slots) key → r ≡ Empty i
+    → (after : ℕ) → after ≡ length slots → i < after / 2
+empty-below slots shift table key i r searched empty after same =
+    rw (same, ← keys-whole slots (table .whole)) (empty-slot-is-empty (keysOf slots) key i (counted [] slots shift table) (sym searched ∙ empty) .0)
 
 module _ (t : CharTrie) (p : ParentRef) (ch node : ℕ) (b : Bool) (tested : b ≡ fromRoot t p ch) where
   pub new-entry-made : (u : CharTrie) → b ≡ true → u ≡ newRootEntry t ch node → stepped (At (RootEntry ch)) u ≡ newStep t p ch node
@@ -76,9 +79,14 @@ module _ (t : CharTrie) (p : ParentRef) (c node : ℕ) (allowed : SlotCount (len
       by-root true e = only-first t p c e .1
       by-root false e = slot-leads-inside (emptySlot (t .keys) (keyOf (nodeAt t p) c)) refl
 
-  pub new-inside : (r : Step) (u : CharTrie) (q : ParentRef) → stepped r u ≡ newStep t p c node → r ≡ At q
+  new-leads : (r : Step) (u : CharTrie) (q : ParentRef) → stepped r u ≡ newStep t p c node → r ≡ At q
       → Inside (length (t .rootChildren)) (length (t .keys)) q
-  new-inside r u q made e = subst (LeadsInside t) (sym (ap (λ (x : Stepped). x .step) made) ∙ e) leads-inside
+  new-leads r u q made e = subst (LeadsInside t) (sym (ap (λ (x : Stepped). x .step) made) ∙ e) leads-inside
+
+pub new-inside : (roots slots : List ℕ) (shift : ℕ) → SlotTable (length slots) shift → (p : ParentRef) (c node : ℕ) (r : Step) (u : CharTrie) (q : ParentRef)
+    → stepped r u ≡ newStep (trieOf roots slots) p c node → r ≡ At q → Inside (length roots) (length slots / 2) q
+new-inside roots slots shift table p c node r u q made e =
+    inside-lent roots slots shift table q (new-leads (trieOf roots slots) p c node (counted roots slots shift table) r u q made e)
 
 -- ---- a chain of them
 

@@ -1,11 +1,10 @@
 -- Insertion as the code takes it apart. What an insertion is says `Trie.insert`, from document 01. It goes in two parts: the steps that are there get
 -- their bits, and then the steps that are not there are made. Here each part has a definition of its own; `Claims` says that they come to `Trie.insert`.
 -- Assumes nothing.
-use Prim.Native.Nat.{ℕ, _-_}
+use Prim.Native.Nat.{ℕ, _/_}
 use mathlib.Core.Bool.{cond}
 use mathlib.Core.List.{List, [], _∷_}
 use mathlib.Core.Option.{Option·getD, IsSome}
-use mathlib.Core.Path.{_≡_}
 use lib.IntN.{ℤ}
 use lib.ListN.{drop}
 use Rattle.utf8.specs.Text.{charsOf}
@@ -15,7 +14,7 @@ use Rattle.trie.specs.declared.Probe.{Probe}
 use Rattle.trie.specs.declared.Probe.the-variants.{Found, Empty, Endless}
 use Rattle.trie.specs.declared.Step.{Step}
 use Rattle.trie.specs.declared.Step.the-variants.{At, Nothing, Damaged}
-use Rattle.trie.specs.Trie.{CharTrie, log2, SlotCount, keyOf, nodeAt, fromRoot, openStep, Reach, Reached, NoEnd, withBits, newRootEntry, newSlot, emptySlot}
+use Rattle.trie.specs.Trie.{CharTrie, keyOf, nodeAt, fromRoot, openStep, Reach, Reached, NoEnd, withBits, newRootEntry, newSlot, emptySlot}
 use Rattle.trie.specs.Trie.{extend}
 use Rattle.walk.specs.Walk.{Inside}
 use Rattle.insert.specs.declared.Marked.{Marked}
@@ -26,15 +25,6 @@ use Rattle.insert.specs.declared.Marked.the-variants.{UpTo}
 -- the characters of a text; none where it is malformed, which no caller lends
 unfoldable pub characters : List ℕ → List ℕ
 characters s = Option·getD (charsOf s) []
-
--- the lengths of the tables and the shift: "slices of one part of a book must be equally long", the number of slots is one that 01 allows, and the
--- shift is the exponent of "divided by 2^(64 - log2 slots)"
-pub record Sizes (rootChildren rootWords keys children words shift : ℕ) : Type 0 where
-  pub rootLengths : rootWords ≡ rootChildren
-  pub slotCount : SlotCount keys
-  pub childLengths : children ≡ keys
-  pub wordLengths : words ≡ keys
-  pub shifted : shift ≡ 64 - log2 keys
 
 -- ---- the steps that are there
 
@@ -60,10 +50,10 @@ unfoldable pub reachOf : List ℕ → Marked → Reach
 reachOf s (UpTo p at) = Reached p (characters (drop at s))
 reachOf s Marked.Damaged = NoEnd
 
--- the code ends at a place inside tables of so many entries and slots, and at a position from which its text is well-formed
+-- the code ends at a place inside tables of so many entries and of slots of so many numbers, and at a position from which its text is well-formed
 unfoldable pub Ready : ℕ → ℕ → List ℕ → Marked → Type 0
-Ready entries slots s (UpTo p at) = Inside entries slots p × IsSome (charsOf (drop at s))
-Ready entries slots s Marked.Damaged = Unit {0}
+Ready entries numbers s (UpTo p at) = Inside entries (numbers / 2) p × IsSome (charsOf (drop at s))
+Ready entries numbers s Marked.Damaged = Unit {0}
 
 -- ---- the steps that are new
 

@@ -8,13 +8,13 @@ use Prim.Native.Nat.{ℕ, _+_, _-_, _<_, _≤_}
 use native.Mathlib.Nat.{le-of-lt}
 use native.Mathlib.Omega.{arith}
 use borrow.Author.Tests.{not-true, not-false}
+use lib.Ieee.{Float}
 use lib.ListN.{length, take, drop, length-take, length-drop}
 use Rattle.lines.specs.Lines.{linesOf, lineEnd}
 use Rattle.lines.proofs.Ends.{lines-at, lines-end, end-bounds}
-use Rattle.insert.specs.Claims.{SameLengths}
-use Rattle.insert.proofs.Lengths.{same-lengths, then-same}
 use Rattle.book.specs.declared.Outcome.the-variants.{Done}
-use Rattle.book.specs.Returns.{Book, isDone, sized}
+use Rattle.book.specs.Returns.{Book, isDone}
+use Rattle.book.specs.Areas.{areasAllowed}
 use Rattle.book.specs.Enter.{loadAnswer, loadLines}
 use Rattle.entry.specs.Texts.{EnterAnswer, enterLine}
 use Rattle.entry.proofs.Lines.{loadOn, load-line}
@@ -22,64 +22,31 @@ use Rattle.load_lines.specs.Answers.{linesLoaded}
 
 -- ---- the areas keep their lengths
 
-pub record SameLong (b c : Book) : Type 0 where
-  pub tables : SameLengths (b .trie) (c .trie)
-  pub frequencies : length (b .frequencies) ≡ length (c .frequencies)
-  pub logarithms : length (b .logarithms) ≡ length (c .logarithms)
+pub record SameLong (roots₀ slots₀ records₀ : List ℕ) (logarithms₀ : List Float) (roots slots records : List ℕ) (logarithms : List Float) : Type 0 where
+  pub same-roots : length roots ≡ length roots₀
+  pub same-slots : length slots ≡ length slots₀
+  pub same-records : length records ≡ length records₀
+  pub same-logarithms : length logarithms ≡ length logarithms₀
 
-then-long : {b c d : Book} → SameLong b c → SameLong c d → SameLong b d
-then-long s t = record {
-  tables = then-same (s .tables) (t .tables);
-  frequencies = s .frequencies ∙ t .frequencies;
-  logarithms = s .logarithms ∙ t .logarithms;
-}
+pub as-long : (roots slots records : List ℕ) (logarithms : List Float) → SameLong roots slots records logarithms roots slots records logarithms
+as-long roots slots records logarithms = record { same-roots = refl; same-slots = refl; same-records = refl; same-logarithms = refl }
 
--- what a call on a head, seven areas and more keeps
-abbrev Kept : Book → Book → Type 0 → Type 0
-Kept b c R =
-    Unit {0}
-    × ((length (b .trie .rootChildren) ≡ length (c .trie .rootChildren))
-    × ((length (b .trie .rootWords) ≡ length (c .trie .rootWords))
-    × ((length (b .trie .keys) ≡ length (c .trie .keys))
-    × ((length (b .trie .children) ≡ length (c .trie .children))
-    × ((length (b .trie .words) ≡ length (c .trie .words))
-    × ((length (b .frequencies) ≡ length (c .frequencies))
-    × ((length (b .logarithms) ≡ length (c .logarithms))
-    × R)))))))
-
-pub kept-long : (b c : Book) {R : Type 0} → Kept b c R → SameLong b c
-kept-long b c k =
-    let tables = k .1 in
-    let records = tables .1 .1 .1 .1 .1 in
-    record {
-      tables = record {
-        rootChildren = tables .0;
-        rootWords = tables .1 .0;
-        keys = tables .1 .1 .0;
-        children = tables .1 .1 .1 .0;
-        words =
-            tables .1 .1 .1 .1 .0;
-      };
-      frequencies = records .0;
-      logarithms = records .1 .0;
-    }
-
-pub still-sized : {b c : Book} → SameLong b c → sized c ≡ true → sized b ≡ true
-still-sized s e =
-    rw (s .tables .rootChildren, s .tables .rootWords, s .tables .keys, s .tables .children, s .tables .words, s .frequencies, s .logarithms) e
+pub still-sized : {roots₀ slots₀ records₀ : List ℕ} {logarithms₀ : List Float} {roots slots records : List ℕ} {logarithms : List Float}
+    → SameLong roots₀ slots₀ records₀ logarithms₀ roots slots records logarithms
+    → areasAllowed (length roots₀) (length slots₀) (length records₀) (length logarithms₀) ≡ true
+    → areasAllowed (length roots) (length slots) (length records) (length logarithms) ≡ true
+still-sized s e = rw (s .same-roots, s .same-slots, s .same-records, s .same-logarithms) e
 
 -- ---- the lines
 
 -- before a line: so many lines have been read, up to a position, and what the lines from there on come to is what the whole text comes to
 pub record Loading (b₀ : Book) (text : List ℕ) (b : Book) (n at : ℕ) : Type 0 where
-  pub long : SameLong b b₀
   pub same : linesLoaded b n text at ≡ linesLoaded b₀ 0 text 0
   pub counted : n ≤ at
   pub inside : at ≤ length text + 1
 
 pub begins : (b : Book) (text : List ℕ) → Loading b text b 0 0
 begins b text = record {
-  long = record { tables = same-lengths (b .trie); frequencies = refl; logarithms = refl };
   same = refl;
   counted =
       omega arith;
@@ -112,10 +79,9 @@ module _ {b₀ : Book} {text : List ℕ} {b : Book} {n at : ℕ} (turn : Loading
         pub stops : not done ≡ true → loadAnswer (e .outcome) (n + 1) (e .book) ≡ linesLoaded b₀ 0 text 0
         stops z = sym (rw (sym tested, not-true done z)) ∙ one-line ∙ turn .same
 
-        pub goes-on : not done ≡ false → SameLong (e .book) b → Loading b₀ text (e .book) (n + 1) (end + 1)
+        pub goes-on : not done ≡ false → Loading b₀ text (e .book) (n + 1) (end + 1)
         unfolding linesLoaded
-        goes-on z long = record {
-          long = then-long long (turn .long);
+        goes-on z = record {
           same = rest ∙ turn .same;
           counted = let l = line-inside in let k = turn .counted in omega arith;
           inside = let l = line-inside in omega arith;

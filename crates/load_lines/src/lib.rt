@@ -1,13 +1,13 @@
 //! The lines of a dictionary enter a book one after the other (lib.rs, the loop of `load_dict`), up to the first that is refused.
 ghost use mathlib.Core.Path.{_≡_};
 ghost use mathlib.Core.Bool.{true};
-ghost use Prim.Native.Nat.{_-_, _≤_};
+ghost use Prim.Native.Nat.{_-_, _/_, _≤_};
 ghost use lib.ListN.{length};
 ghost use Rattle.logs.specs.Table.{isLogTable};
 ghost use Rattle.trie.specs.Trie.{log2};
 ghost use Rattle.trie.specs.Lent.{was};
-ghost use Rattle.book.specs.Areas.{bookLent, bookLeft};
-ghost use Rattle.book.specs.Returns.{longestText, allowed};
+ghost use Rattle.book.specs.Areas.{areasAllowed, bookLent, bookLeft};
+ghost use Rattle.book.specs.Returns.{longestText};
 ghost use Rattle.book.specs.Enter.{loadAnswer};
 ghost use Rattle.entry.specs.Texts.{enterAnswer, enterLine};
 ghost use Rattle.load_lines.specs.Answers.{linesLoaded};
@@ -28,22 +28,18 @@ pub struct Loaded {
 // frequency is looked up in the table, which the loop below lends to every line.
 fn load_line(
     head: Head,
-    root_children: &mut [u32],
-    root_words: &mut [i32],
-    keys: &mut [u64],
-    children: &mut [u32],
-    words: &mut [i32],
-    frequencies: &mut [u32],
+    roots: &mut [u64],
+    slots: &mut [u64],
+    records: &mut [u64],
     logarithms: &mut [f64],
     shift: u32,
     line: &[u8],
     table: &LogTable,
 ) -> Entered
-    requires { ⌜ allowed (length (now «root_children»)) (length (now «root_words»)) (length (now keys)) (length (now children)) (length (now words))
-        (length (now frequencies)) (length (now logarithms)) ≡ true ⌝ }
-    requires { ⌜ (shift ≡ 64 - log2 (length (now keys))) × (length (now line) ≤ longestText) × (isLogTable (now table) ≡ true) ⌝ }
-    ensures { λ r. ⌜ enterAnswer (r .outcome) (bookLeft (r .head) «root_children» «root_words» keys children words frequencies logarithms)
-        ≡ enterLine (bookLent head «root_children» «root_words» keys children words frequencies logarithms) (was line) ⌝ }
+    requires { ⌜ areasAllowed (length (now roots)) (length (now slots)) (length (now records)) (length (now logarithms)) ≡ true ⌝ }
+    requires { ⌜ (shift ≡ 64 - log2 (length (now slots) / 2)) × (length (now line) ≤ longestText) × (isLogTable (now table) ≡ true) ⌝ }
+    ensures { λ r. ⌜ enterAnswer (r .outcome) (bookLeft (r .head) roots slots records logarithms)
+        ≡ enterLine (bookLent head roots slots records logarithms) (was line) ⌝ }
 {
     match lines::parse_line(line) {
         Line::Malformed => Entered {
@@ -62,12 +58,9 @@ fn load_line(
             let logarithm = logs::log_by(table, frequency);
             let entered = entry::load_entry(
                 head,
-                root_children,
-                root_words,
-                keys,
-                children,
-                words,
-                frequencies,
+                roots,
+                slots,
+                records,
                 logarithms,
                 shift,
                 &line[start..end],
@@ -92,21 +85,17 @@ fn load_line(
 // The lines of a dictionary enter one after the other, up to the first that is refused.
 pub fn load_lines(
     head: Head,
-    root_children: &mut [u32],
-    root_words: &mut [i32],
-    keys: &mut [u64],
-    children: &mut [u32],
-    words: &mut [i32],
-    frequencies: &mut [u32],
+    roots: &mut [u64],
+    slots: &mut [u64],
+    records: &mut [u64],
     logarithms: &mut [f64],
     shift: u32,
     text: &[u8],
 ) -> Loaded
-    requires { ⌜ allowed (length (now «root_children»)) (length (now «root_words»)) (length (now keys)) (length (now children)) (length (now words))
-        (length (now frequencies)) (length (now logarithms)) ≡ true ⌝ }
-    requires { ⌜ (shift ≡ 64 - log2 (length (now keys))) × (length (now text) ≤ longestText) ⌝ }
-    ensures { λ r. ⌜ loadAnswer (r .outcome) (r .line) (bookLeft (r .head) «root_children» «root_words» keys children words frequencies logarithms)
-        ≡ linesLoaded (bookLent head «root_children» «root_words» keys children words frequencies logarithms) 0 (was text) 0 ⌝ }
+    requires { ⌜ areasAllowed (length (now roots)) (length (now slots)) (length (now records)) (length (now logarithms)) ≡ true ⌝ }
+    requires { ⌜ (shift ≡ 64 - log2 (length (now slots) / 2)) × (length (now text) ≤ longestText) ⌝ }
+    ensures { λ r. ⌜ loadAnswer (r .outcome) (r .line) (bookLeft (r .head) roots slots records logarithms)
+        ≡ linesLoaded (bookLent head roots slots records logarithms) 0 (was text) 0 ⌝ }
 {
     let table = logs::table();
     let mut head = head;
@@ -117,12 +106,9 @@ pub fn load_lines(
         line += 1;
         let entered = load_line(
             head,
-            root_children,
-            root_words,
-            keys,
-            children,
-            words,
-            frequencies,
+            roots,
+            slots,
+            records,
             logarithms,
             shift,
             &text[at..end],

@@ -7,11 +7,12 @@ use mathlib.Core.Option.{Option, none, some}
 use Prim.Native.Nat.{ℕ, _<_}
 use native.Mathlib.Omega.{arith}
 use lib.Dec.{leb}
+use lib.Ieee.{Float}
 use lib.ListN.{length}
 use Rattle.utf8.specs.Text.{charsOf}
 use Rattle.trie.specs.declared.Got.{Got}
 use Rattle.trie.specs.declared.Got.the-variants.{Held}
-use Rattle.trie.specs.Trie.{CharTrie}
+use Rattle.trie.specs.Trie.{CharTrie, trieOf}
 use Rattle.walk.specs.Walk.{gotOf}
 use Rattle.book.specs.declared.Found.{Found}
 use Rattle.book.specs.declared.Found.the-variants.{NotLookedUp}
@@ -19,6 +20,8 @@ use Rattle.book.specs.declared.Head.{Head}
 use Rattle.book.specs.declared.Outcome.{Outcome}
 use Rattle.book.specs.declared.Outcome.the-variants.{BadAreas, TooLong}
 use Rattle.book.specs.Returns.{Book, sized, longestText, headDamaged, damagedHead, foundBy, lookupChars, lookupOf}
+use Rattle.book.specs.Areas.{areasAllowed, bookOf}
+use Rattle.book.proofs.Areas.{sized-lent}
 use Rattle.book.proofs.Held.{held-used}
 use Rattle.book.proofs.Sizes.{head-within}
 use Rattle.lookup.specs.declared.WordTest.{WordTest}
@@ -29,7 +32,7 @@ use Rattle.lookup.specs.Tests.{testedChars, testedWord}
 abbrev lookupBy : Book → List ℕ → WordTest → Found
 lookupBy b word (Refused o) = NotLookedUp o
 lookupBy b word Empty = Found.Absent
-lookupBy b word Word = cond (damagedHead b) (NotLookedUp Outcome.Damaged) (foundBy (b .frequencies) (gotOf (b .head .records) (b .trie) (charsOf word)))
+lookupBy b word Word = cond (damagedHead b) (NotLookedUp Outcome.Damaged) (foundBy b (gotOf (b .head .records) (b .trie) (charsOf word)))
 
 module _ (b : Book) (word : List ℕ) where
   by-chars : (o : Option (List ℕ)) → charsOf word ≡ o → lookupBy b word (testedChars o) ≡ lookupChars b o
@@ -64,7 +67,7 @@ module _ (b : Book) (word : List ℕ) where
       head-damaged h = rw (e, sym head, h) at by-tests
 
       pub looked-up : d ≡ false → {g got : Got} → got ≡ gotOf (b .head .records) (b .trie) (charsOf word) → got ≡ g
-          → foundBy (b .frequencies) g ≡ lookupOf b word
+          → foundBy b g ≡ lookupOf b word
       looked-up h q f = rw (sym f, q) (rw (e, sym head, h) at by-tests)
 
 -- the record that is found is one that is used, and so one of the book's
@@ -74,3 +77,10 @@ record-inside head records slots tested sound trie o walked found =
     let used = held-used (head .records) _ trie o (sym walked ∙ found) in
     let within = head-within head records slots (sym tested ∙ sound) in
     omega (arith, used, within)
+
+-- the tests of the areas' lengths are those of the book that is lent
+pub tested-lent : (head : Head) (roots slots records : List ℕ) (logarithms : List Float) (word : List ℕ) {t : WordTest}
+    → t ≡ testedWord (areasAllowed (length roots) (length slots) (length records) (length logarithms)) word
+    → t ≡ testedWord (sized (bookOf head (trieOf roots slots) records logarithms)) word
+tested-lent head roots slots records logarithms word tested =
+    tested ∙ ap (λ (areas : Bool). testedWord areas word) (sized-lent head roots slots records logarithms)

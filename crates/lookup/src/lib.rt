@@ -5,8 +5,8 @@
 //! nothing is written.
 ghost use mathlib.Core.Path.{_≡_};
 ghost use Rattle.trie.specs.Lent.{was};
-ghost use Rattle.book.specs.Areas.{bookLent};
-ghost use Rattle.book.specs.Returns.{allowed, lookupOf};
+ghost use Rattle.book.specs.Areas.{areasAllowed, bookLent};
+ghost use Rattle.book.specs.Returns.{lookupOf};
 ghost use Rattle.book.specs.Numbers.{foundReturns, lookupReturns};
 ghost use Rattle.lookup.specs.Tests.{testedWord};
 use book::Found;
@@ -24,26 +24,15 @@ pub enum WordTest {
 
 // The tests of a word, by the lengths of a book's areas and its bytes.
 pub fn test_word(
-    root_children: usize,
-    root_words: usize,
-    keys: usize,
-    children: usize,
-    words: usize,
-    frequencies: usize,
+    roots: usize,
+    slots: usize,
+    records: usize,
     logarithms: usize,
     word: &[u8],
 ) -> WordTest
-    ensures { λ r. ⌜ r ≡ testedWord (allowed «root_children» «root_words» keys children words frequencies logarithms) (was word) ⌝ }
+    ensures { λ r. ⌜ r ≡ testedWord (areasAllowed roots slots records logarithms) (was word) ⌝ }
 {
-    if !book::is_allowed(
-        root_children,
-        root_words,
-        keys,
-        children,
-        words,
-        frequencies,
-        logarithms,
-    ) {
+    if !book::is_allowed(roots, slots, records, logarithms) {
         return WordTest::Refused(Outcome::BadAreas);
     }
     if book::LONGEST_TEXT < word.len() {
@@ -61,25 +50,19 @@ pub fn test_word(
 // The frequency of a word.
 pub fn lookup(
     head: Head,
-    root_children: &[u32],
-    root_words: &[i32],
-    keys: &[u64],
-    children: &[u32],
-    words: &[i32],
-    frequencies: &[u32],
+    roots: &[u64],
+    slots: &[u64],
+    records: &[u64],
     logarithms: &[f64],
     word: &[u8],
 ) -> Found
-    ensures { λ r. ⌜ r ≡ lookupOf (bookLent head «root_children» «root_words» keys children words frequencies logarithms) (was word) ⌝ }
-    ensures { λ r. ⌜ foundReturns r ≡ lookupReturns (bookLent head «root_children» «root_words» keys children words frequencies logarithms) (was word) ⌝ }
+    ensures { λ r. ⌜ r ≡ lookupOf (bookLent head roots slots records logarithms) (was word) ⌝ }
+    ensures { λ r. ⌜ foundReturns r ≡ lookupReturns (bookLent head roots slots records logarithms) (was word) ⌝ }
 {
     match test_word(
-        root_children.len(),
-        root_words.len(),
-        keys.len(),
-        children.len(),
-        words.len(),
-        frequencies.len(),
+        roots.len(),
+        slots.len(),
+        records.len(),
         logarithms.len(),
         word,
     ) {
@@ -87,22 +70,13 @@ pub fn lookup(
         WordTest::Empty => return Found::Absent,
         WordTest::Word => {}
     }
-    if book::is_head_damaged(head, frequencies.len(), keys.len()) {
+    if book::is_head_damaged(head, records.len(), slots.len() / 2) {
         return Found::NotLookedUp(Outcome::Damaged);
     }
-    let shift = trie::shift_of(keys.len());
+    let shift = trie::shift_of(slots.len() / 2);
     let used = head.records as usize;
-    match word_walk::get(
-        root_children,
-        root_words,
-        keys,
-        children,
-        words,
-        shift,
-        used,
-        word,
-    ) {
-        Got::Held(n) => Found::Frequency(frequencies[n]),
+    match word_walk::get(roots, slots, shift, used, word) {
+        Got::Held(n) => Found::Frequency(book::cell_frequency(records[n])),
         Got::Absent => Found::Absent,
         Got::Damaged => Found::NotLookedUp(Outcome::Damaged),
     }

@@ -1,45 +1,79 @@
--- What the code sets at a place, by the kind of place that it met: each case of `withBits` and `withWord`. Assumes nothing.
+-- What the code sets at a place, by the kind of place that it met: each case of `withBits` and `withWord`, and a place that is new. Assumes nothing.
 use Prim.Native.Nat.{ℕ}
 use mathlib.Core.Path.{_≡_}
 use mathlib.Core.List.{List}
-use lib.IntN.{ℤ}
+use lib.IntN.{pos}
 use lib.ListN.{getD, set}
 use Rattle.arith.specs.Bits.{withBit}
 use Rattle.trie.specs.declared.ParentRef.{ParentRef}
 use Rattle.trie.specs.declared.ParentRef.the-variants.{Root, RootEntry, Slot}
-use Rattle.trie.specs.Trie.{trieOf, CharTrie, keyBit, childBit, withBits, withWord}
+use Rattle.trie.specs.Trie.{noWord, childOf, wordOf, keysOf, linksOf, trieOf, CharTrie, keyBit, childBit, withBits, withWord, newRootEntry, newSlot}
+use Rattle.trie.proofs.Packed.{child-at, set-child, set-word, same-child, same-word}
 
-module _ (rootChildren : List ℕ) (rootWords : List ℤ) (keys children : List ℕ) (words : List ℤ) (p : ParentRef) where
+-- ---- at a root entry
+
+module _ (roots slots : List ℕ) (p : ParentRef) where
   abbrev tables : CharTrie
-  tables = trieOf rootChildren rootWords keys children words
+  tables = trieOf roots slots
 
-  module _ (ch : ℕ) where
-    pub bits-root : p ≡ Root → tables ≡ withBits tables p ch
+  pub bits-root : (ch : ℕ) → p ≡ Root → tables ≡ withBits tables p ch
+  unfolding withBits
+  bits-root ch e = rw e
+
+  pub word-root : (number : ℕ) → p ≡ Root → tables ≡ withWord tables p (pos number)
+  unfolding withWord
+  word-root number e = rw e
+
+  module _ (i : ℕ) (e : p ≡ RootEntry i) (link : ℕ) where
+    pub bits-entry : (ch bit : ℕ) → bit ≡ childBit ch → childOf link ≡ withBit (childOf (getD roots i 0)) bit → wordOf link ≡ wordOf (getD roots i 0)
+        → trieOf (set roots i link) slots ≡ withBits tables p ch
     unfolding withBits
-    bits-root e = rw e
+    bits-entry ch bit b child word = rw (e, set-child roots i link, same-word roots i link word, child, child-at roots i, b)
 
-    pub bits-entry : (i bit child : ℕ) → p ≡ RootEntry i → bit ≡ childBit ch → child ≡ withBit (getD rootChildren i 0) bit
-        → trieOf (set rootChildren i child) rootWords keys children words ≡ withBits tables p ch
-    unfolding withBits
-    bits-entry i bit child e b c = rw (e, c, b)
-
-    pub bits-slot : (i key-bit child-bit key child : ℕ) → p ≡ Slot i
-        → key-bit ≡ keyBit ch → key ≡ withBit (getD keys i 0) key-bit → child-bit ≡ childBit ch → child ≡ withBit (getD children i 0) child-bit
-        → trieOf rootChildren rootWords (set keys i key) (set children i child) words ≡ withBits tables p ch
-    unfolding withBits
-    bits-slot i key-bit child-bit key child e kb k cb c = rw (e, k, kb, c, cb)
-
-  module _ (number : ℤ) where
-    pub word-root : p ≡ Root → tables ≡ withWord tables p number
+    pub word-entry : (number : ℕ) → childOf link ≡ childOf (getD roots i 0) → wordOf link ≡ pos number → trieOf (set roots i link) slots ≡ withWord tables p (pos number)
     unfolding withWord
-    word-root e = rw e
+    word-entry number child word = rw (e, same-child roots i link child, set-word roots i link, word)
 
-    pub word-entry : (i : ℕ) (stored : ℤ) → p ≡ RootEntry i → stored ≡ number
-        → trieOf rootChildren (set rootWords i stored) keys children words ≡ withWord tables p number
-    unfolding withWord
-    word-entry i stored e s = rw (e, s)
+  -- ---- at a slot, whose key and link were read, and stored again one after the other
 
-    pub word-slot : (i : ℕ) (stored : ℤ) → p ≡ Slot i → stored ≡ number
-        → trieOf rootChildren rootWords keys children (set words i stored) ≡ withWord tables p number
-    unfolding withWord
-    word-slot i stored e s = rw (e, s)
+  module _ (i : ℕ) (e : p ≡ Slot i) (link new : ℕ) (read : link ≡ getD (linksOf slots) i 0) where
+    module _ (slots₁ : List ℕ) (keys : keysOf slots₁ ≡ keysOf slots) (links : linksOf slots₁ ≡ set (linksOf slots) i new) where
+      pub word-slot : (number : ℕ) → childOf new ≡ childOf link → wordOf new ≡ pos number → trieOf roots slots₁ ≡ withWord tables p (pos number)
+      unfolding withWord
+      word-slot number child word = rw (e, keys, links, same-child (linksOf slots) i new (rw (← read) child), set-word (linksOf slots) i new, word)
+
+    module _ (key new-key : ℕ) (key-read : key ≡ getD (keysOf slots) i 0) (slots₁ slots₂ : List ℕ)
+        (keys : keysOf slots₁ ≡ set (keysOf slots) i new-key) (same-links : linksOf slots₁ ≡ linksOf slots)
+        (same-keys : keysOf slots₂ ≡ keysOf slots₁) (links : linksOf slots₂ ≡ set (linksOf slots₁) i new) where
+      pub bits-slot : (ch key-bit child-bit : ℕ) → key-bit ≡ keyBit ch → new-key ≡ withBit key key-bit → child-bit ≡ childBit ch
+          → childOf new ≡ withBit (childOf link) child-bit → wordOf new ≡ wordOf link → trieOf roots slots₂ ≡ withBits tables p ch
+      unfolding withBits
+      bits-slot ch key-bit child-bit kb k cb child word =
+          rw (
+            e,
+            same-keys,
+            keys,
+            links,
+            same-links,
+            set-child (linksOf slots) i new,
+            same-word (linksOf slots) i new (rw (← read) word),
+            child,
+            child-at (linksOf slots) i,
+            ← read,
+            k,
+            key-read,
+            kb,
+            cb,
+          )
+
+-- ---- a place that is new
+
+pub entry-new : (roots slots : List ℕ) (ch node link : ℕ) → childOf link ≡ node → wordOf link ≡ noWord
+    → trieOf (set roots ch link) slots ≡ newRootEntry (trieOf roots slots) ch node
+entry-new roots slots ch node link child word = rw (set-child roots ch link, set-word roots ch link, child, word)
+
+pub slot-new : (roots slots slots₁ slots₂ : List ℕ) (i key node link : ℕ) → keysOf slots₁ ≡ set (keysOf slots) i key → linksOf slots₁ ≡ linksOf slots
+    → keysOf slots₂ ≡ keysOf slots₁ → linksOf slots₂ ≡ set (linksOf slots₁) i link → childOf link ≡ node → wordOf link ≡ noWord
+    → trieOf roots slots₂ ≡ newSlot (trieOf roots slots) i key node
+slot-new roots slots slots₁ slots₂ i key node link keys same-links same-keys links child word =
+    rw (same-keys, keys, links, same-links, set-child (linksOf slots) i link, set-word (linksOf slots) i link, child, word)

@@ -9,7 +9,6 @@ use mathlib.Core.Path.{_≡_, refl, sym, ap, _∙_}
 use native.Mathlib.Nat.{le-refl, sub-self}
 use native.Mathlib.Omega.{arith}
 use lib.Ieee.{nan}
-use lib.IntN.{ℤ}
 use lib.ListN.{length, getD, set, take, drop, length-set, length-append}
 use lib.Seq.{getD-set-other}
 use Rattle.trie.specs.declared.ParentRef.{ParentRef}
@@ -18,7 +17,7 @@ use Rattle.trie.specs.declared.Step.{Step}
 use Rattle.trie.specs.declared.Step.the-variants.{At, Nothing, Damaged}
 use Rattle.trie.specs.declared.WordNumber.{WordNumber}
 use Rattle.trie.specs.declared.WordNumber.the-variants.{NoWord, Record, Bad}
-use Rattle.trie.specs.Trie.{CharTrie, SlotCount, testedStep, wordAt, trieOf}
+use Rattle.trie.specs.Trie.{CharTrie, SlotTable, testedStep, wordAt, trieOf}
 use Rattle.book.specs.Returns.{Book}
 use Rattle.book.specs.Prefixes.{Edge, Walked, ended, broken, wordsFrom}
 use Rattle.book.proofs.Held.{record-in-use}
@@ -38,9 +37,9 @@ Follows chars n at taken count ends records b w =
     wordsFrom b at (drop at (take n chars)) ≡ after (edgesFrom ends records (b .logarithms) taken (count - taken)) w
 
 -- where it stands: at a place, before a character, with so many places taken
-pub record Walking (rootChildren : List ℕ) (rootWords : List ℤ) (keys children : List ℕ) (words : List ℤ) (used : ℕ) (chars : List ℕ)
+pub record Walking (roots slots : List ℕ) (used : ℕ) (chars : List ℕ)
     (n at room taken : ℕ) (ends₀ records₀ ends records : List ℕ) (count : ℕ) (place : ParentRef) (next : ℕ) : Type 0 where
-  pub walk : Walk (Follows chars n at taken count ends records) rootChildren rootWords keys children words used chars n at place next
+  pub walk : Walk (Follows chars n at taken count ends records) roots slots used chars n at place next
   pub rising : taken ≤ count
   pub within : count ≤ room
   pub ends-long : length ends ≡ length ends₀
@@ -52,13 +51,13 @@ pub record Walking (rootChildren : List ℕ) (rootWords : List ℤ) (keys childr
   pub known : (i : ℕ) → taken ≤ i → i < count → getD records i 0 < used
 
 -- at the root, before the first character
-pub begins : (rootChildren : List ℕ) (rootWords : List ℤ) (keys children : List ℕ) (words : List ℤ) (used : ℕ) (chars : List ℕ)
+pub begins : (roots slots : List ℕ) (used : ℕ) (chars : List ℕ)
     (n at room taken : ℕ) (ends records : List ℕ)
     → at < n
     → taken ≤ room
-    → Walking rootChildren rootWords keys children words used chars n at room taken ends records ends records taken Root at
+    → Walking roots slots used chars n at room taken ends records ends records taken Root at
 unfolding edgesFrom
-begins rootChildren rootWords keys children words used chars n at room taken ends records more fits =
+begins roots slots used chars n at room taken ends records more fits =
     record {
       walk = at-root more (λ b seen. rw (sub-self taken));
       rising = le-refl taken;
@@ -72,12 +71,12 @@ begins rootChildren rootWords keys children words used chars n at room taken end
       known = λ i first last. absurd (omega arith);
     }
 
-module _ {rootChildren : List ℕ} {rootWords : List ℤ} {keys children : List ℕ} {words : List ℤ} {used : ℕ} {chars : List ℕ}
+module _ {roots slots : List ℕ} {used : ℕ} {chars : List ℕ}
     {n at room taken : ℕ} {ends₀ records₀ ends records : List ℕ} {count : ℕ} {place : ParentRef} {next : ℕ}
-    (here : Walking rootChildren rootWords keys children words used chars n at room taken ends₀ records₀ ends records count place next)
+    (here : Walking roots slots used chars n at room taken ends₀ records₀ ends records count place next)
     (long : n ≤ length chars) where
   abbrev tables : CharTrie
-  tables = trieOf rootChildren rootWords keys children words
+  tables = trieOf roots slots
 
   -- the block's characters
   abbrev cs : List ℕ
@@ -126,7 +125,7 @@ module _ {rootChildren : List ℕ} {rootWords : List ℤ} {keys children : List 
 
   -- there is a character, and its step is taken
   module _ {r : Step} (more : next < n)
-      (step : (rootWords′ words′ : List ℤ) → r ≡ testedStep (trieOf rootChildren rootWords′ keys children words′) place (getD chars next 0)) where
+      (step : r ≡ testedStep (trieOf roots slots) place (getD chars next 0)) where
     -- no step leads on
     pub ends-nothing : r ≡ Nothing → Ensured (Edges count)
     ends-nothing e = by-end (at-nothing (here .walk) long more step e)
@@ -137,15 +136,15 @@ module _ {rootChildren : List ℕ} {rootWords : List ℤ} {keys children : List 
 
     -- the step leads to a place, and the word number there is read
     module _ {q : ParentRef} (stepped : r ≡ At q) {number : WordNumber}
-        (read : (rootChildren′ keys′ children′ : List ℕ) → number ≡ wordAt used (trieOf rootChildren′ rootWords keys′ children′ words) q) where
+        (read : number ≡ wordAt used (trieOf roots slots) q) where
       -- a bad word number
       pub ends-bad : number ≡ Bad → Ensured Prefixes.Damaged
       ends-bad e = by-damage (at-bad (here .walk) long more step stepped read e)
 
       -- no word ends there
-      pub goes-on : SlotCount (length keys)
+      pub goes-on : {shift : ℕ} → SlotTable (length slots) shift
           → number ≡ NoWord
-          → Walking rootChildren rootWords keys children words used chars n at room taken ends₀ records₀ ends records count q (next + 1)
+          → Walking roots slots used chars n at room taken ends₀ records₀ ends records count q (next + 1)
       goes-on allowed e =
           record {
             walk = past (here .walk) long more step stepped read allowed e;
@@ -163,7 +162,7 @@ module _ {rootChildren : List ℕ} {rootWords : List ℤ} {keys children : List 
       -- a word ends there
       module _ {k : ℕ} (word : number ≡ Record k) where
         pub in-use-record : k < used
-        in-use-record = record-in-use used k tables q (sym (read rootChildren keys children) ∙ word)
+        in-use-record = record-in-use used k tables q (sym read ∙ word)
 
         -- the word's edge, and what the walk on from its place meets
         abbrev edgeOf : Book → Edge
@@ -184,11 +183,11 @@ module _ {rootChildren : List ℕ} {rootWords : List ℤ} {keys children : List 
         )
 
         -- the word's edge is written
-        pub goes-on-behind : SlotCount (length keys)
+        pub goes-on-behind : {shift : ℕ} → SlotTable (length slots) shift
             → count < room
             → room ≤ length ends₀
             → room ≤ length records₀
-            → Walking rootChildren rootWords keys children words used chars n at room taken ends₀ records₀
+            → Walking roots slots used chars n at room taken ends₀ records₀
             (set ends count (next + 1)) (set records count k) (count + 1) q (next + 1)
         goes-on-behind allowed free in-ends in-records =
             let free-end : count < length ends = omega (arith, here .ends-long) in

@@ -3,11 +3,10 @@
 //! The Rust grows an array of edges. Here their ends and records go to two lent slices, behind those of the positions before. So the
 //! walk can run out of room, and in a damaged book it can meet damage; it answers which it met first.
 ghost use mathlib.Core.Path.{_≡_};
-ghost use Prim.Native.Nat.{_-_, _≤_, _<_};
+ghost use Prim.Native.Nat.{_≤_, _<_};
 ghost use lib.ListN.{length, take, drop};
-ghost use Rattle.trie.specs.Trie.{SlotCount, log2};
+ghost use Rattle.trie.specs.Trie.{SlotTable};
 ghost use Rattle.trie.specs.Lent.{was, became, trieLent};
-ghost use Rattle.walk.specs.Walk.{EquallyLong};
 ghost use Rattle.book.specs.Returns.{Book, longestText, mostRecords};
 ghost use Rattle.book.specs.Prefixes.{wordsFrom};
 ghost use Rattle.cuts.specs.Slices.{Characters};
@@ -29,11 +28,8 @@ pub enum Prefixes {
 // The words that start at a position of a block of n characters, after the edges before them: so many of the room's places are
 // taken. Ends rise.
 pub fn prefixes_at(
-    root_children: &[u32],
-    root_words: &[i32],
-    keys: &[u64],
-    children: &[u32],
-    words: &[i32],
+    roots: &[u64],
+    slots: &[u64],
     shift: u32,
     used: usize,
     chars: &[u32],
@@ -44,11 +40,10 @@ pub fn prefixes_at(
     room: usize,
     taken: usize,
 ) -> Prefixes
-    requires { ⌜ EquallyLong (now «root_children») (now «root_words») (now keys) (now children) (now words) ⌝ }
-    requires { ⌜ SlotCount (length (now keys)) × (shift ≡ 64 - log2 (length (now keys))) ⌝ }
+    requires { ⌜ SlotTable (length (now slots)) shift ⌝ }
     requires { ⌜ (at < n) × (n ≤ length (now chars)) × (n ≤ longestText) × Characters n (now chars) ⌝ }
     requires { ⌜ (taken ≤ room) × (room ≤ length (now «edge_ends»)) × (room ≤ length (now «edge_records»)) × (used ≤ mostRecords) ⌝ }
-    ensures { λ r. ⌜ ((b : Book) → b .trie ≡ trieLent «root_children» «root_words» keys children words → b .head .records ≡ used
+    ensures { λ r. ⌜ ((b : Book) → b .trie ≡ trieLent roots slots → b .head .records ≡ used
         → WalkedAt b n at room taken (wordsFrom b at (drop at (take n (was chars)))) (became «edge_ends») (became «edge_records») r) ⌝ }
     ensures { λ _. ⌜ Kept taken (was «edge_ends») (became «edge_ends») × Kept taken (was «edge_records») (became «edge_records») ⌝ }
 {
@@ -56,7 +51,7 @@ pub fn prefixes_at(
     let mut place = ParentRef::Root;
     let mut next = at;
     while next < n {
-        match walk::tested_step(root_children, keys, children, shift, place, chars[next]) {
+        match walk::tested_step(roots, slots, shift, place, chars[next]) {
             Step::At(child) => {
                 place = child;
                 next += 1;
@@ -68,7 +63,7 @@ pub fn prefixes_at(
                 return Prefixes::Damaged;
             }
         }
-        match walk::word_at(root_words, words, used, place) {
+        match walk::word_at(roots, slots, used, place) {
             WordNumber::NoWord => {}
             WordNumber::Record(record) => {
                 if count == room {

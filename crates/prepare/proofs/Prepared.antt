@@ -1,36 +1,58 @@
--- What `prepare` answers, by the test of the sizes: the areas as they were, or each filled. Slices of one part are equally long, so each fill is as long
--- as the empty book's part.
+-- What `prepare` answers, by the test of the sizes: the areas as they were, or each filled with zeros. Zeros are no children, no words and no keys to the
+-- views, and the areas of one part are equally long, so each fill is the empty book's part.
 -- Assumes nothing.
-use mathlib.Core.Path.{_≡_, refl, sym, ap, _∙_}
+use mathlib.Core.Path.{_≡_, sym, _∙_}
 use mathlib.Core.Bool.{Bool, true, false}
 use mathlib.Core.List.{List}
-use Prim.Native.Nat.{ℕ}
-use lib.IntN.{ℤ, pos}
+use Prim.Native.Nat.{ℕ, _+_, _/_}
+use native.Mathlib.Omega.{arith}
+use lib.IntN.{pos}
 use lib.Ieee.{Float}
 use lib.ListN.{length, replicate}
 use Rattle.score.specs.Scores.{whole, floatOf}
-use Rattle.trie.specs.Trie.{noWord, trieOf}
+use Rattle.trie.specs.Trie.{trieOf}
+use Rattle.trie.proofs.Packed.{length-children, keys-whole, no-children, no-words, no-keys, no-links}
 use Rattle.book.specs.declared.Outcome.the-variants.{BadAreas}
 use Rattle.book.specs.declared.Prepared.the-variants.{Ready, Refused}
-use Rattle.book.specs.Returns.{allowed, emptyHead, emptyBook, prepareAnswer, prepareOf}
-use Rattle.book.proofs.Sizes.{Sizes, sizes}
+use Rattle.book.specs.Areas.{areasAllowed, bookOf}
+use Rattle.book.specs.Returns.{sized, emptyHead, emptyBook, prepareAnswer, prepareOf}
+use Rattle.book.proofs.Areas.{sized-lent, slots-whole, logarithms-same}
 
-module _ (rc : List ℕ) (rw' : List ℤ) (k c : List ℕ) (w : List ℤ) (f : List ℕ) (l : List Float) (r : Bool)
-    (e : r ≡ allowed (length rc) (length rw') (length k) (length c) (length w) (length f) (length l)) where
-  pub refused : r ≡ false → prepareAnswer (Refused BadAreas) (trieOf rc rw' k c w) f l ≡ prepareOf (trieOf rc rw' k c w) f l
+module _ (roots slots records : List ℕ) (l : List Float) (r : Bool)
+    (e : r ≡ areasAllowed (length roots) (length slots) (length records) (length l)) where
+  lengths : sized (bookOf emptyHead (trieOf roots slots) records l) ≡ r
+  lengths = sym (sized-lent emptyHead roots slots records l) ∙ sym e
+
+  pub refused : r ≡ false → prepareAnswer (Refused BadAreas) (trieOf roots slots) records l ≡ prepareOf (trieOf roots slots) records l
   unfolding prepareOf
-  refused h = rw (← e, h)
+  refused h = rw (lengths, h)
 
-  pub ready : (rc₁ : List ℕ) (rw₁ : List ℤ) (k₁ c₁ : List ℕ) (w₁ : List ℤ) (f₁ : List ℕ) (l₁ : List Float) → r ≡ true
-      → rc₁ ≡ replicate (length rc) 0
-      → rw₁ ≡ replicate (length rw') noWord
-      → k₁ ≡ replicate (length k) 0
-      → c₁ ≡ replicate (length c) 0
-      → w₁ ≡ replicate (length w) noWord
-      → f₁ ≡ replicate (length f) 0
+  pub ready : (roots₁ slots₁ records₁ : List ℕ) (l₁ : List Float) → r ≡ true
+      → roots₁ ≡ replicate (length roots) 0
+      → slots₁ ≡ replicate (length slots) 0
+      → records₁ ≡ replicate (length records) 0
       → l₁ ≡ replicate (length l) (floatOf (whole (pos 0)))
-      → prepareAnswer (Ready emptyHead) (trieOf rc₁ rw₁ k₁ c₁ w₁) f₁ l₁ ≡ prepareOf (trieOf rc rw' k c w) f l
+      → prepareAnswer (Ready emptyHead) (trieOf roots₁ slots₁) records₁ l₁ ≡ prepareOf (trieOf roots slots) records l
   unfolding prepareOf emptyBook
-  ready rc₁ rw₁ k₁ c₁ w₁ f₁ l₁ h erc erw ek ec ew ef el =
-      let s = sizes (length rc) (length rw') (length k) (length c) (length w) (length f) (length l) (sym e ∙ h) in
-      rw (← e, h, erc, erw, ek, ec, ew, ef, el, s .root-words, s .slot-children, s .slot-words, s .record-logarithms)
+  ready roots₁ slots₁ records₁ l₁ h er es ec el =
+      let areas = sym e ∙ h in
+      let even = slots-whole _ _ _ _ areas in
+      let half : (length slots + 1) / 2 ≡ length slots / 2 = omega arith in
+      rw (
+        lengths,
+        h,
+        er,
+        es,
+        ec,
+        el,
+        no-children,
+        no-words,
+        no-keys,
+        no-links,
+        no-children,
+        no-words,
+        length-children roots,
+        keys-whole slots even,
+        half,
+        logarithms-same _ _ _ _ areas,
+      )

@@ -1,11 +1,9 @@
 //! Records: whether one is left, which one a new word takes, and what is written to it.
 ghost use mathlib.Core.Path.{_≡_};
-ghost use Prim.Native.Nat.{_≤_, _<_};
 ghost use lib.ListN.{length, set};
-ghost use Rattle.score.specs.Logarithm.{logFloat};
 ghost use Rattle.trie.specs.Lent.{was, became};
-ghost use Rattle.book.specs.Returns.{mostRecords};
 ghost use Rattle.book.specs.Enter.{noRecord, nextRecord};
+ghost use Rattle.records.specs.Places.{RecordInside};
 use book::Head;
 
 // Whether every record is taken, of so many.
@@ -22,19 +20,11 @@ pub fn next_record(head: Head) -> u64
     head.records
 }
 
-// A record's frequency, and the logarithm that goes with it.
-pub fn set_record(
-    frequencies: &mut [u32],
-    logarithms: &mut [f64],
-    n: usize,
-    frequency: u32,
-    logarithm: f64,
-)
-    requires { ⌜ (n < length (now frequencies)) × (n < length (now logarithms)) × (length (now frequencies) ≤ mostRecords)
-        × (length (now logarithms) ≤ mostRecords) ⌝ }
-    requires { ⌜ logarithm ≡ logFloat frequency ⌝ }
-    ensures { λ _. ⌜ (became frequencies ≡ set (was frequencies) n frequency) × (became logarithms ≡ set (was logarithms) n (logFloat frequency)) ⌝ }
+// A record's cell, and the logarithm of its frequency.
+pub fn set_record(records: &mut [u64], logarithms: &mut [f64], n: usize, cell: u64, logarithm: f64)
+    requires { ⌜ RecordInside (length (now records)) (length (now logarithms)) n ⌝ }
+    ensures { λ _. ⌜ (became records ≡ set (was records) n cell) × (became logarithms ≡ set (was logarithms) n logarithm) ⌝ }
 {
-    frequencies[n] = frequency;
+    records[n] = cell;
     logarithms[n] = logarithm;
 }

@@ -1,2 +1,3 @@
 -- What the tests before a cut come to.
 pub mod Beginning
+pub mod Lent

@@ -49,30 +49,19 @@ pub fn shortest(
 // first, apart from the slots': side by side the compiler moves two lengths as one, which waits for the stores of both.
 pub fn begin(
     head: Head,
-    frequencies: usize,
+    records: usize,
     logarithms: usize,
-    root_children: usize,
-    root_words: usize,
-    keys: usize,
-    children: usize,
-    words: usize,
+    roots: usize,
+    slots: usize,
     sentence: &[u8],
     work: usize,
     tokens: usize,
 ) -> Outcome
     ensures { λ r. ⌜ ((area : List ℕ) → length area ≡ tokens
-        → answer r (written 0 area) ≡ cutWith (testedSizes head «root_children» «root_words» keys children words frequencies logarithms) work area
+        → answer r (written 0 area) ≡ cutWith (testedSizes head roots slots records logarithms) work area
         (λ cs. answer Done) (was sentence)) ⌝ }
 {
-    if !book::is_allowed(
-        root_children,
-        root_words,
-        keys,
-        children,
-        words,
-        frequencies,
-        logarithms,
-    ) {
+    if !book::is_allowed(roots, slots, records, logarithms) {
         return Outcome::BadAreas;
     }
     if tokens % cuts::TOKEN_WIDTH != 0 {
@@ -87,7 +76,7 @@ pub fn begin(
     if work <= count {
         return Outcome::WorkTooShort;
     }
-    if book::is_head_damaged(head, frequencies, keys) {
+    if book::is_head_damaged(head, records, slots / 2) {
         return Outcome::Damaged;
     }
     Outcome::Done

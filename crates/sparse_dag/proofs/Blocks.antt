@@ -11,7 +11,6 @@ use native.Mathlib.Numerals.{add-one}
 use native.Mathlib.Omega.{arith}
 use borrow.Author.Tests.{lt-ltb, le-ltb}
 use lib.Ieee.{Float}
-use lib.IntN.{ℤ}
 use lib.ListN.{length, getD, set, take, drop, length-set}
 use lib.Seq.{length-take-le, getD-set-same, getD-set-other}
 use Rattle.score.proofs.Tests.{by-leb}
@@ -71,7 +70,7 @@ joined-none (stopped o) = refl
 -- ---- the loop
 
 -- where it stands: before the position `at`, with so many places taken
-pub record Joining (rootChildren : List ℕ) (rootWords : List ℤ) (keys children : List ℕ) (words : List ℤ) (used : ℕ) (chars : List ℕ)
+pub record Joining (roots slots : List ℕ) (used : ℕ) (chars : List ℕ)
     (n room : ℕ) (starts₀ ends₀ records₀ starts ends records : List ℕ) (count at : ℕ) : Type 0 where
   pub last : at ≤ n
   pub within : count ≤ room
@@ -85,18 +84,18 @@ pub record Joining (rootChildren : List ℕ) (rootWords : List ℤ) (keys childr
   pub inside : (i place : ℕ) → i < at → EdgeOf starts i place → getD ends place 0 ≤ n
   pub known : (i place : ℕ) → i < at → EdgeOf starts i place → getD records place 0 < used
   pub same : (b : Book)
-      → b .trie ≡ trieOf rootChildren rootWords keys children words
+      → b .trie ≡ trieOf roots slots
       → b .head .records ≡ used
       → edgesWithin room (walksOf (wordsFrom b) 0 (take n chars))
       ≡ joined (rowsFrom starts ends records (b .logarithms) 0 at) (edgesWithin (room - count) (walksOf (wordsFrom b) at (drop at (take n chars))))
 
 -- before the first position, with no place taken
-pub begins : (rootChildren : List ℕ) (rootWords : List ℤ) (keys children : List ℕ) (words : List ℤ) (used : ℕ) (chars : List ℕ)
+pub begins : (roots slots : List ℕ) (used : ℕ) (chars : List ℕ)
     (n room : ℕ) (starts ends records : List ℕ)
     → getD starts 0 0 ≡ 0
-    → Joining rootChildren rootWords keys children words used chars n room starts ends records starts ends records 0 0
+    → Joining roots slots used chars n room starts ends records starts ends records 0 0
 unfolding rowsFrom
-begins rootChildren rootWords keys children words used chars n room starts ends records first =
+begins roots slots used chars n room starts ends records first =
     record {
       last = omega arith;
       within = omega arith;
@@ -112,12 +111,12 @@ begins rootChildren rootWords keys children words used chars n room starts ends 
       same = λ b trie in-use. rw (sub-zero room) (sym (joined-none (edgesWithin room (walksOf (wordsFrom b) 0 (take n chars)))));
     }
 
-module _ {rootChildren : List ℕ} {rootWords : List ℤ} {keys children : List ℕ} {words : List ℤ} {used : ℕ} {chars : List ℕ}
+module _ {roots slots : List ℕ} {used : ℕ} {chars : List ℕ}
     {n room : ℕ} {starts₀ ends₀ records₀ starts ends records : List ℕ} {count at : ℕ}
-    (now : Joining rootChildren rootWords keys children words used chars n room starts₀ ends₀ records₀ starts ends records count at)
+    (now : Joining roots slots used chars n room starts₀ ends₀ records₀ starts ends records count at)
     (long : n ≤ length chars) where
   abbrev tables : CharTrie
-  tables = trieOf rootChildren rootWords keys children words
+  tables = trieOf roots slots
 
   -- the block's characters
   abbrev cs : List ℕ
@@ -198,7 +197,7 @@ module _ {rootChildren : List ℕ} {rootWords : List ℤ} {keys children : List 
       some-book = record {
         head = record { records = used; slots = 0; next = 1; total = 0 };
         trie = tables;
-        frequencies = [];
+        records = [];
         logarithms = [];
       }
 
@@ -262,7 +261,7 @@ module _ {rootChildren : List ℕ} {rootWords : List ℤ} {keys children : List 
           -- the next start is written
           pub goes-on : length ends′ ≡ length ends
               → length records′ ≡ length records
-              → Joining rootChildren rootWords keys children words used chars n room starts₀ ends₀ records₀ starts′ ends′ records′ to (at + 1)
+              → Joining roots slots used chars n room starts₀ ends₀ records₀ starts′ ends′ records′ to (at + 1)
           goes-on same-ends same-records =
               record {
                 last = omega arith;

@@ -5,11 +5,10 @@
 //! records in two slices, position after position, and for each position the place of its first edge, with one more at the
 //! block's end.
 ghost use mathlib.Core.Path.{_≡_};
-ghost use Prim.Native.Nat.{_-_, _≤_, _<_};
+ghost use Prim.Native.Nat.{_≤_, _<_};
 ghost use lib.ListN.{length, take};
-ghost use Rattle.trie.specs.Trie.{SlotCount, log2};
+ghost use Rattle.trie.specs.Trie.{SlotTable};
 ghost use Rattle.trie.specs.Lent.{was, became, trieLent};
-ghost use Rattle.walk.specs.Walk.{EquallyLong};
 ghost use Rattle.book.specs.Returns.{Book, longestText, mostRecords};
 ghost use Rattle.cuts.specs.Slices.{Characters};
 ghost use Rattle.prefixes.specs.Edges.{WalkedBlock};
@@ -18,11 +17,8 @@ use prefixes::Prefixes;
 // The words that start at each position of a block of n characters. The edges of a position i are the places `starts[i]` up to
 // `starts[i + 1]` of the edge slices, of which the room's places may be taken.
 pub fn for_each_prefix_at_every_char(
-    root_children: &[u32],
-    root_words: &[i32],
-    keys: &[u64],
-    children: &[u32],
-    words: &[i32],
+    roots: &[u64],
+    slots: &[u64],
     shift: u32,
     used: usize,
     chars: &[u32],
@@ -32,11 +28,10 @@ pub fn for_each_prefix_at_every_char(
     edge_records: &mut [u32],
     room: usize,
 ) -> Prefixes
-    requires { ⌜ EquallyLong (now «root_children») (now «root_words») (now keys) (now children) (now words) ⌝ }
-    requires { ⌜ SlotCount (length (now keys)) × (shift ≡ 64 - log2 (length (now keys))) ⌝ }
+    requires { ⌜ SlotTable (length (now slots)) shift ⌝ }
     requires { ⌜ (n ≤ length (now chars)) × (n ≤ longestText) × (n < length (now starts)) × Characters n (now chars) ⌝ }
     requires { ⌜ (room ≤ length (now «edge_ends»)) × (room ≤ length (now «edge_records»)) × (used ≤ mostRecords) ⌝ }
-    ensures { λ r. ⌜ ((b : Book) → b .trie ≡ trieLent «root_children» «root_words» keys children words → b .head .records ≡ used → used ≤ length (b .logarithms)
+    ensures { λ r. ⌜ ((b : Book) → b .trie ≡ trieLent roots slots → b .head .records ≡ used → used ≤ length (b .logarithms)
         → WalkedBlock b n room (take n (was chars)) (became starts) (became «edge_ends») (became «edge_records») r) ⌝ }
 {
     starts[0] = 0;
@@ -44,11 +39,8 @@ pub fn for_each_prefix_at_every_char(
     let mut at: usize = 0;
     while at < n {
         match prefixes::prefixes_at(
-            root_children,
-            root_words,
-            keys,
-            children,
-            words,
+            roots,
+            slots,
             shift,
             used,
             chars,

@@ -1,8 +1,8 @@
 //! The static library: the public calls for programs in C and Rust, on numbers and slices.
 //!
-//! Each export is a thin function over the call of its name, and none asks anything of its caller but what a slice is: valid for
-//! its length, aligned, and apart from every other slice that is written. A book's head crosses as a slice of four numbers:
-//! records used, slots used, next node, total. `include/tongsvale.h` says what each returns.
+//! Each export but the interface's number is a thin function over the call of its name, and none asks anything of its caller but
+//! what a slice is: valid for its length, aligned, and apart from every other slice that is written. A book's head crosses as a
+//! slice of four numbers: records used, slots used, next node, total. `include/tongsvale.h` says what each returns.
 ghost use mathlib.Core.Path.{_≡_};
 ghost use mathlib.Core.Bool.{false, _&&_};
 ghost use Rattle.trie.specs.Lent.{was, became, trieLent, trieLeft};
@@ -11,8 +11,8 @@ ghost use Rattle.cuts.specs.Slices.{Unchanged};
 ghost use Rattle.cut_sentence.specs.Areas as CutAreas;
 ghost use Rattle.cut_all.specs.Areas as CutAllAreas;
 ghost use Rattle.numbers.specs.Numbers.{foundNumbers, isMode};
-ghost use Rattle.tongsvale.specs.Exports.{exported, prepareExport, loadExport, addExport, lookupExport, badAreas, cutNumbers, cutExport};
-ghost use Rattle.tongsvale.specs.Exports.{cutForSearchExport, tokenizeExport, cutAllExport, cutBegins};
+ghost use Rattle.tongsvale.specs.Exports.{abi, exported, prepareExport, loadExport, addExport, lookupExport, badAreas, cutNumbers};
+ghost use Rattle.tongsvale.specs.Exports.{cutExport, cutForSearchExport, tokenizeExport, cutAllExport, cutBegins};
 use book::Outcome;
 use book::Prepared;
 use cuts::Cut;
@@ -67,33 +67,31 @@ fn refused() -> TongsvaleCut
     })
 }
 
+// The number of the interface, which the symbol bears too: a program compiled with a header of another number refers to another
+// symbol and does not link. The number goes up with every change of an area, a token or a call.
+#[no_mangle]
+pub extern "C" fn tongsvale_abi_2() -> u32
+    ensures { λ r. ⌜ r ≡ abi ⌝ }
+{
+    2
+}
+
 // An empty book.
 #[no_mangle]
 pub extern "C" fn tongsvale_prepare(
     head: &mut [u64],
-    root_children: &mut [u32],
-    root_words: &mut [i32],
-    keys: &mut [u64],
-    children: &mut [u32],
-    words: &mut [i32],
-    frequencies: &mut [u32],
+    roots: &mut [u64],
+    slots: &mut [u64],
+    records: &mut [u64],
     logarithms: &mut [f64],
 ) -> u32
-    ensures { λ r. ⌜ exported r 0 (became head) (trieLeft «root_children» «root_words» keys children words) (became frequencies) (became logarithms)
-        ≡ prepareExport (was head) (trieLent «root_children» «root_words» keys children words) (was frequencies) (was logarithms) ⌝ }
+    ensures { λ r. ⌜ exported r 0 (became head) (trieLeft roots slots) (became records) (became logarithms)
+        ≡ prepareExport (was head) (trieLent roots slots) (was records) (was logarithms) ⌝ }
 {
     if head.len() != numbers::HEAD_LENGTH {
         return book::number_of(Outcome::BadAreas);
     }
-    match prepare::prepare(
-        root_children,
-        root_words,
-        keys,
-        children,
-        words,
-        frequencies,
-        logarithms,
-    ) {
+    match prepare::prepare(roots, slots, records, logarithms) {
         Prepared::Ready(value) => {
             numbers::write_head(head, value);
             0
@@ -106,18 +104,14 @@ pub extern "C" fn tongsvale_prepare(
 #[no_mangle]
 pub extern "C" fn tongsvale_load(
     head: &mut [u64],
-    root_children: &mut [u32],
-    root_words: &mut [i32],
-    keys: &mut [u64],
-    children: &mut [u32],
-    words: &mut [i32],
-    frequencies: &mut [u32],
+    roots: &mut [u64],
+    slots: &mut [u64],
+    records: &mut [u64],
     logarithms: &mut [f64],
     text: &[u8],
 ) -> TongsvaleLoaded
-    ensures { λ r. ⌜ exported (r .number) (r .line) (became head) (trieLeft «root_children» «root_words» keys children words) (became frequencies)
-        (became logarithms) ≡ loadExport (was head) (trieLent «root_children» «root_words» keys children words) (was frequencies) (was logarithms)
-        (was text) ⌝ }
+    ensures { λ r. ⌜ exported (r .number) (r .line) (became head) (trieLeft roots slots) (became records) (became logarithms)
+        ≡ loadExport (was head) (trieLent roots slots) (was records) (was logarithms) (was text) ⌝ }
 {
     if head.len() != numbers::HEAD_LENGTH {
         return TongsvaleLoaded {
@@ -127,12 +121,9 @@ pub extern "C" fn tongsvale_load(
     }
     let loaded = dict::load_dict(
         numbers::read_head(head),
-        root_children,
-        root_words,
-        keys,
-        children,
-        words,
-        frequencies,
+        roots,
+        slots,
+        records,
         logarithms,
         text,
     );
@@ -149,19 +140,15 @@ pub extern "C" fn tongsvale_load(
 #[no_mangle]
 pub extern "C" fn tongsvale_add(
     head: &mut [u64],
-    root_children: &mut [u32],
-    root_words: &mut [i32],
-    keys: &mut [u64],
-    children: &mut [u32],
-    words: &mut [i32],
-    frequencies: &mut [u32],
+    roots: &mut [u64],
+    slots: &mut [u64],
+    records: &mut [u64],
     logarithms: &mut [f64],
     word: &[u8],
     frequency: u64,
 ) -> TongsvaleAdded
-    ensures { λ r. ⌜ exported (r .number) (r .frequency) (became head) (trieLeft «root_children» «root_words» keys children words)
-        (became frequencies) (became logarithms) ≡ addExport (was head) (trieLent «root_children» «root_words» keys children words) (was frequencies)
-        (was logarithms) (was word) frequency ⌝ }
+    ensures { λ r. ⌜ exported (r .number) (r .frequency) (became head) (trieLeft roots slots) (became records) (became logarithms)
+        ≡ addExport (was head) (trieLent roots slots) (was records) (was logarithms) (was word) frequency ⌝ }
 {
     if head.len() != numbers::HEAD_LENGTH {
         return TongsvaleAdded {
@@ -171,12 +158,9 @@ pub extern "C" fn tongsvale_add(
     }
     let added = addition::add_word(
         numbers::read_head(head),
-        root_children,
-        root_words,
-        keys,
-        children,
-        words,
-        frequencies,
+        roots,
+        slots,
+        records,
         logarithms,
         word,
         frequency,
@@ -194,17 +178,14 @@ pub extern "C" fn tongsvale_add(
 #[no_mangle]
 pub extern "C" fn tongsvale_lookup(
     head: &[u64],
-    root_children: &[u32],
-    root_words: &[i32],
-    keys: &[u64],
-    children: &[u32],
-    words: &[i32],
-    frequencies: &[u32],
+    roots: &[u64],
+    slots: &[u64],
+    records: &[u64],
     logarithms: &[f64],
     word: &[u8],
 ) -> TongsvaleFound
     ensures { λ r. ⌜ foundNumbers (r .number) (r .held) (r .frequency)
-        ≡ lookupExport (was head) (trieLent «root_children» «root_words» keys children words) (was frequencies) (was logarithms) (was word) ⌝ }
+        ≡ lookupExport (was head) (trieLent roots slots) (was records) (was logarithms) (was word) ⌝ }
 {
     if head.len() != numbers::HEAD_LENGTH {
         return TongsvaleFound {
@@ -215,12 +196,9 @@ pub extern "C" fn tongsvale_lookup(
     }
     let found = numbers::found_numbers(lookup::lookup(
         numbers::read_head(head),
-        root_children,
-        root_words,
-        keys,
-        children,
-        words,
-        frequencies,
+        roots,
+        slots,
+        records,
         logarithms,
         word,
     ));
@@ -235,12 +213,9 @@ pub extern "C" fn tongsvale_lookup(
 #[no_mangle]
 pub extern "C" fn tongsvale_cut(
     head: &[u64],
-    root_children: &[u32],
-    root_words: &[i32],
-    keys: &[u64],
-    children: &[u32],
-    words: &[i32],
-    frequencies: &[u32],
+    roots: &[u64],
+    slots: &[u64],
+    records: &[u64],
     logarithms: &[f64],
     sentence: &[u8],
     chars: &mut [u32],
@@ -248,30 +223,27 @@ pub extern "C" fn tongsvale_cut(
     starts: &mut [usize],
     scores: &mut [f64],
     ends: &mut [u32],
-    records: &mut [u32],
+    route_records: &mut [u32],
     edge_ends: &mut [u32],
     edge_records: &mut [u32],
     tokens: &mut [u32],
 ) -> TongsvaleCut
     ensures { λ r. ⌜ cutNumbers (r .number) (r .count) (became tokens)
-        ≡ cutExport (was head) (trieLent «root_children» «root_words» keys children words) (was frequencies) (was logarithms)
-        (CutAreas.workLent chars offsets starts scores ends records) (CutAreas.roomLent «edge_ends» «edge_records») (was tokens) (was sentence) ⌝ }
-    ensures { λ _. ⌜ (cutBegins (was head) (trieLent «root_children» «root_words» keys children words) (was frequencies) (was logarithms)
-        (CutAreas.workLent chars offsets starts scores ends records) (was tokens) (was sentence) ≡ false
-        → Unchanged chars × Unchanged offsets × Unchanged starts × Unchanged scores × Unchanged ends × Unchanged records × Unchanged «edge_ends»
-        × Unchanged «edge_records») ⌝ }
+        ≡ cutExport (was head) (trieLent roots slots) (was records) (was logarithms)
+        (CutAreas.workLent chars offsets starts scores ends «route_records») (CutAreas.roomLent «edge_ends» «edge_records») (was tokens) (was sentence) ⌝ }
+    ensures { λ _. ⌜ (cutBegins (was head) (trieLent roots slots) (was records) (was logarithms)
+        (CutAreas.workLent chars offsets starts scores ends «route_records») (was tokens) (was sentence) ≡ false
+        → Unchanged chars × Unchanged offsets × Unchanged starts × Unchanged scores × Unchanged ends × Unchanged «route_records»
+        × Unchanged «edge_ends» × Unchanged «edge_records») ⌝ }
 {
     if head.len() != numbers::HEAD_LENGTH {
         return refused();
     }
     returned(cut::cut(
         numbers::read_head(head),
-        root_children,
-        root_words,
-        keys,
-        children,
-        words,
-        frequencies,
+        roots,
+        slots,
+        records,
         logarithms,
         sentence,
         chars,
@@ -279,7 +251,7 @@ pub extern "C" fn tongsvale_cut(
         starts,
         scores,
         ends,
-        records,
+        route_records,
         edge_ends,
         edge_records,
         tokens,
@@ -290,12 +262,9 @@ pub extern "C" fn tongsvale_cut(
 #[no_mangle]
 pub extern "C" fn tongsvale_cut_for_search(
     head: &[u64],
-    root_children: &[u32],
-    root_words: &[i32],
-    keys: &[u64],
-    children: &[u32],
-    words: &[i32],
-    frequencies: &[u32],
+    roots: &[u64],
+    slots: &[u64],
+    records: &[u64],
     logarithms: &[f64],
     sentence: &[u8],
     chars: &mut [u32],
@@ -303,30 +272,27 @@ pub extern "C" fn tongsvale_cut_for_search(
     starts: &mut [usize],
     scores: &mut [f64],
     ends: &mut [u32],
-    records: &mut [u32],
+    route_records: &mut [u32],
     edge_ends: &mut [u32],
     edge_records: &mut [u32],
     tokens: &mut [u32],
 ) -> TongsvaleCut
     ensures { λ r. ⌜ cutNumbers (r .number) (r .count) (became tokens)
-        ≡ cutForSearchExport (was head) (trieLent «root_children» «root_words» keys children words) (was frequencies) (was logarithms)
-        (CutAreas.workLent chars offsets starts scores ends records) (CutAreas.roomLent «edge_ends» «edge_records») (was tokens) (was sentence) ⌝ }
-    ensures { λ _. ⌜ (cutBegins (was head) (trieLent «root_children» «root_words» keys children words) (was frequencies) (was logarithms)
-        (CutAreas.workLent chars offsets starts scores ends records) (was tokens) (was sentence) ≡ false
-        → Unchanged chars × Unchanged offsets × Unchanged starts × Unchanged scores × Unchanged ends × Unchanged records × Unchanged «edge_ends»
-        × Unchanged «edge_records») ⌝ }
+        ≡ cutForSearchExport (was head) (trieLent roots slots) (was records) (was logarithms)
+        (CutAreas.workLent chars offsets starts scores ends «route_records») (CutAreas.roomLent «edge_ends» «edge_records») (was tokens) (was sentence) ⌝ }
+    ensures { λ _. ⌜ (cutBegins (was head) (trieLent roots slots) (was records) (was logarithms)
+        (CutAreas.workLent chars offsets starts scores ends «route_records») (was tokens) (was sentence) ≡ false
+        → Unchanged chars × Unchanged offsets × Unchanged starts × Unchanged scores × Unchanged ends × Unchanged «route_records»
+        × Unchanged «edge_ends» × Unchanged «edge_records») ⌝ }
 {
     if head.len() != numbers::HEAD_LENGTH {
         return refused();
     }
     returned(cut_for_search::cut_for_search(
         numbers::read_head(head),
-        root_children,
-        root_words,
-        keys,
-        children,
-        words,
-        frequencies,
+        roots,
+        slots,
+        records,
         logarithms,
         sentence,
         chars,
@@ -334,7 +300,7 @@ pub extern "C" fn tongsvale_cut_for_search(
         starts,
         scores,
         ends,
-        records,
+        route_records,
         edge_ends,
         edge_records,
         tokens,
@@ -345,12 +311,9 @@ pub extern "C" fn tongsvale_cut_for_search(
 #[no_mangle]
 pub extern "C" fn tongsvale_tokenize(
     head: &[u64],
-    root_children: &[u32],
-    root_words: &[i32],
-    keys: &[u64],
-    children: &[u32],
-    words: &[i32],
-    frequencies: &[u32],
+    roots: &[u64],
+    slots: &[u64],
+    records: &[u64],
     logarithms: &[f64],
     sentence: &[u8],
     mode: u32,
@@ -359,18 +322,18 @@ pub extern "C" fn tongsvale_tokenize(
     starts: &mut [usize],
     scores: &mut [f64],
     ends: &mut [u32],
-    records: &mut [u32],
+    route_records: &mut [u32],
     edge_ends: &mut [u32],
     edge_records: &mut [u32],
     tokens: &mut [u32],
 ) -> TongsvaleCut
     ensures { λ r. ⌜ cutNumbers (r .number) (r .count) (became tokens)
-        ≡ tokenizeExport (was head) (trieLent «root_children» «root_words» keys children words) (was frequencies) (was logarithms)
-        mode (CutAreas.workLent chars offsets starts scores ends records) (CutAreas.roomLent «edge_ends» «edge_records») (was tokens) (was sentence) ⌝ }
-    ensures { λ _. ⌜ ((isMode mode && cutBegins (was head) (trieLent «root_children» «root_words» keys children words) (was frequencies)
-        (was logarithms) (CutAreas.workLent chars offsets starts scores ends records) (was tokens) (was sentence)) ≡ false
-        → Unchanged chars × Unchanged offsets × Unchanged starts × Unchanged scores × Unchanged ends × Unchanged records × Unchanged «edge_ends»
-        × Unchanged «edge_records») ⌝ }
+        ≡ tokenizeExport (was head) (trieLent roots slots) (was records) (was logarithms)
+        mode (CutAreas.workLent chars offsets starts scores ends «route_records») (CutAreas.roomLent «edge_ends» «edge_records») (was tokens) (was sentence) ⌝ }
+    ensures { λ _. ⌜ ((isMode mode && cutBegins (was head) (trieLent roots slots) (was records) (was logarithms)
+        (CutAreas.workLent chars offsets starts scores ends «route_records») (was tokens) (was sentence)) ≡ false
+        → Unchanged chars × Unchanged offsets × Unchanged starts × Unchanged scores × Unchanged ends × Unchanged «route_records»
+        × Unchanged «edge_ends» × Unchanged «edge_records») ⌝ }
 {
     if head.len() != numbers::HEAD_LENGTH {
         return refused();
@@ -380,12 +343,9 @@ pub extern "C" fn tongsvale_tokenize(
     }
     returned(tokenize::tokenize(
         numbers::read_head(head),
-        root_children,
-        root_words,
-        keys,
-        children,
-        words,
-        frequencies,
+        roots,
+        slots,
+        records,
         logarithms,
         sentence,
         numbers::mode_of(mode),
@@ -394,7 +354,7 @@ pub extern "C" fn tongsvale_tokenize(
         starts,
         scores,
         ends,
-        records,
+        route_records,
         edge_ends,
         edge_records,
         tokens,
@@ -405,12 +365,9 @@ pub extern "C" fn tongsvale_tokenize(
 #[no_mangle]
 pub extern "C" fn tongsvale_cut_all(
     head: &[u64],
-    root_children: &[u32],
-    root_words: &[i32],
-    keys: &[u64],
-    children: &[u32],
-    words: &[i32],
-    frequencies: &[u32],
+    roots: &[u64],
+    slots: &[u64],
+    records: &[u64],
     logarithms: &[f64],
     sentence: &[u8],
     chars: &mut [u32],
@@ -418,9 +375,9 @@ pub extern "C" fn tongsvale_cut_all(
     tokens: &mut [u32],
 ) -> TongsvaleCut
     ensures { λ r. ⌜ cutNumbers (r .number) (r .count) (became tokens)
-        ≡ cutAllExport (was head) (trieLent «root_children» «root_words» keys children words) (was frequencies) (was logarithms)
+        ≡ cutAllExport (was head) (trieLent roots slots) (was records) (was logarithms)
         (CutAllAreas.workLent chars offsets) (was tokens) (was sentence) ⌝ }
-    ensures { λ _. ⌜ (cutBegins (was head) (trieLent «root_children» «root_words» keys children words) (was frequencies) (was logarithms)
+    ensures { λ _. ⌜ (cutBegins (was head) (trieLent roots slots) (was records) (was logarithms)
         (CutAllAreas.workLent chars offsets) (was tokens) (was sentence) ≡ false
         → Unchanged chars × Unchanged offsets) ⌝ }
 {
@@ -429,12 +386,9 @@ pub extern "C" fn tongsvale_cut_all(
     }
     returned(cut_all::cut_all(
         numbers::read_head(head),
-        root_children,
-        root_words,
-        keys,
-        children,
-        words,
-        frequencies,
+        roots,
+        slots,
+        records,
         logarithms,
         sentence,
         chars,

@@ -2,4 +2,4 @@
 pub mod Slots
 pub mod Probes
 pub mod Steps
-pub mod WordNumbers
+pub mod Packed

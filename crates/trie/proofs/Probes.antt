@@ -2,7 +2,7 @@
 -- slot less; with none left it is endless. The same of the search for an empty slot. The slot at which either ends is one of the slots, since
 -- the start is one and the next one is, and it passed the test that ended the probe.
 -- Assumes nothing.
-use Prim.Native.Nat.{ℕ, zero, suc, _-_, _*_, _/_, _%_, _^_, _≤_, _<_}
+use Prim.Native.Nat.{ℕ, zero, suc, _+_, _-_, _*_, _/_, _%_, _^_, _≤_, _<_}
 use mathlib.Core.Path.{_≡_, refl, subst}
 use mathlib.Core.Bool.{Bool, true, false}
 use mathlib.Core.List.{List}
@@ -12,52 +12,70 @@ use lib.Dec.{eqb}
 use lib.ListN.{length, getD}
 use Rattle.trie.specs.declared.Probe.{Probe}
 use Rattle.trie.specs.declared.Probe.the-variants.{Found, Empty, Endless}
-use Rattle.trie.specs.Trie.{log2, SlotCount, startSlot, nextSlot, probeFrom, probeOf, emptyFrom, emptySlot}
+use Rattle.trie.specs.Trie.{SlotCount, SlotTable, keysOf, startSlot, nextSlot, probeFrom, probeOf, emptyFrom, emptySlot}
 use Rattle.trie.specs.Claims.{FoundHasKey, EmptyHasNoKey, EmptySlotIsEmpty}
-use Rattle.trie.proofs.Slots.{starts-at-slot, next-below}
+use Rattle.trie.proofs.Slots.{slot-left, shift-below, starts-at-slot, next-below}
+use Rattle.trie.proofs.Packed.{keys-whole, key-at}
 
 -- ---- the start
 
-module _ (keys : List ℕ) (key shift i : ℕ) (shifted : shift ≡ 64 - log2 (length keys)) (hashed : i ≡ key * 0x9E3779B97F4A7C15 % 2 ^ 64 / 2 ^ shift) where
-  start : i ≡ startSlot (length keys) key
+pub shift-fits : (numbers shift : ℕ) → SlotTable numbers shift → shift < 64
+shift-fits numbers shift table = shift-below (numbers / 2) (table .slotCount) shift (table .shifted)
+
+pub slots-left : (numbers shift : ℕ) → SlotTable numbers shift → 0 < numbers / 2
+slots-left numbers shift table = slot-left (numbers / 2) (table .slotCount)
+
+module _ (slots : List ℕ) (key shift i : ℕ) (table : SlotTable (length slots) shift) (hashed : i ≡ key * 0x9E3779B97F4A7C15 % 2 ^ 64 / 2 ^ shift) where
+  start : i ≡ startSlot (length slots / 2) key
   unfolding startSlot
-  start = rw (← shifted) hashed
+  start = rw (← table .shifted) hashed
 
-  pub start-below : SlotCount (length keys) → i < length keys
-  start-below allowed = rw start (starts-at-slot (length keys) key allowed)
+  pub start-below : i < length slots / 2
+  start-below = rw start (starts-at-slot (length slots / 2) key (table .slotCount))
 
-  pub probe-start : probeFrom (length keys) keys key i ≡ probeOf keys key
+  pub probe-start : probeFrom (length slots / 2) (keysOf slots) key i ≡ probeOf (keysOf slots) key
   unfolding probeOf
-  probe-start = rw (← start)
+  probe-start = rw (keys-whole slots (table .whole), ← start)
 
-  pub empty-start : emptyFrom (length keys) keys i ≡ emptySlot keys key
+  pub empty-start : emptyFrom (length slots / 2) (keysOf slots) i ≡ emptySlot (keysOf slots) key
   unfolding emptySlot
-  empty-start = rw (← start)
+  empty-start = rw (keys-whole slots (table .whole), ← start)
 
 pub next-is-slot : (n i next : ℕ) → next ≡ nextSlot n i → i < n → next < n
 next-is-slot n i next e h = rw e (next-below n i h)
 
+-- the numbers of slot i
+pub key-inside : (numbers i : ℕ) → i < numbers / 2 → 2 * i < numbers
+key-inside numbers i h = omega arith
+
+pub link-inside : (numbers i : ℕ) → i < numbers / 2 → 2 * i + 1 < numbers
+link-inside numbers i h = omega arith
+
 -- ---- a turn of a probe with n slots left, carried to the answer r of the whole probe
 
-module _ (keys : List ℕ) (key i n : ℕ) (r : Probe) (same : probeFrom n keys key i ≡ r) (some : 0 < n) where
-  turn : probeFrom (suc (n - 1)) keys key i ≡ r
-  turn = subst (λ (m : ℕ). probeFrom m keys key i ≡ r) (omega arith) same
+module _ (slots : List ℕ) (shift : ℕ) (table : SlotTable (length slots) shift) (key i n : ℕ) (r : Probe)
+    (same : probeFrom n (keysOf slots) key i ≡ r) (some : 0 < n) where
+  turn : probeFrom (suc (n - 1)) (keysOf slots) key i ≡ r
+  turn = subst (λ (m : ℕ). probeFrom m (keysOf slots) key i ≡ r) (omega arith) same
 
-  pub probe-found : getD keys i 0 % 2 ^ 48 ≡ key → Found i ≡ r
+  stored : getD (keysOf slots) i 0 ≡ getD slots (2 * i) 0
+  stored = key-at slots i
+
+  pub probe-found : getD slots (2 * i) 0 % 2 ^ 48 ≡ key → Found i ≡ r
   unfolding probeFrom
-  probe-found has = rw (eq-eqb _ _ has, probeFrom) at turn
+  probe-found has = rw (stored, eq-eqb _ _ has, probeFrom) at turn
 
-  module _ (other : getD keys i 0 % 2 ^ 48 ≡ key → ⊥) where
-    pub probe-empty : getD keys i 0 ≡ 0 → Empty i ≡ r
+  module _ (other : getD slots (2 * i) 0 % 2 ^ 48 ≡ key → ⊥) where
+    pub probe-empty : getD slots (2 * i) 0 ≡ 0 → Empty i ≡ r
     unfolding probeFrom
-    probe-empty empty = rw (ne-eqb _ _ other, eq-eqb _ _ empty, probeFrom) at turn
+    probe-empty empty = rw (stored, ne-eqb _ _ other, stored, eq-eqb _ _ empty, probeFrom) at turn
 
-    module _ (taken : getD keys i 0 ≡ 0 → ⊥) where
-      onward : probeFrom (n - 1) keys key (nextSlot (length keys) i) ≡ r
+    module _ (taken : getD slots (2 * i) 0 ≡ 0 → ⊥) where
+      onward : probeFrom (n - 1) (keysOf slots) key (nextSlot (length slots / 2) i) ≡ r
       unfolding probeFrom
-      onward = rw (ne-eqb _ _ other, ne-eqb _ _ taken, probeFrom) at turn
+      onward = rw (stored, ne-eqb _ _ other, stored, ne-eqb _ _ taken, probeFrom, keys-whole slots (table .whole)) at turn
 
-      pub probe-on : (next : ℕ) → next ≡ nextSlot (length keys) i → probeFrom (n - 1) keys key next ≡ r
+      pub probe-on : (next : ℕ) → next ≡ nextSlot (length slots / 2) i → probeFrom (n - 1) (keysOf slots) key next ≡ r
       probe-on next e = rw e onward
 
       pub probe-endless : n - 1 ≡ 0 → Endless ≡ r
@@ -66,22 +84,22 @@ module _ (keys : List ℕ) (key i n : ℕ) (r : Probe) (same : probeFrom n keys 
 
 -- ---- the same of a search for an empty slot
 
-module _ (keys : List ℕ) (i n : ℕ) (r : Probe) (same : emptyFrom n keys i ≡ r) where
+module _ (slots : List ℕ) (shift : ℕ) (table : SlotTable (length slots) shift) (i n : ℕ) (r : Probe) (same : emptyFrom n (keysOf slots) i ≡ r) where
   pub empty-endless : n ≤ 0 → Endless ≡ r
   unfolding emptyFrom
   empty-endless none = let none-left : n ≡ 0 = omega arith in rw none-left at same
 
   module _ (some : 0 < n) where
-    turn-empty : emptyFrom (suc (n - 1)) keys i ≡ r
-    turn-empty = subst (λ (m : ℕ). emptyFrom m keys i ≡ r) (omega arith) same
+    turn-empty : emptyFrom (suc (n - 1)) (keysOf slots) i ≡ r
+    turn-empty = subst (λ (m : ℕ). emptyFrom m (keysOf slots) i ≡ r) (omega arith) same
 
-    pub empty-found : getD keys i 0 ≡ 0 → Empty i ≡ r
+    pub empty-found : getD slots (2 * i) 0 ≡ 0 → Empty i ≡ r
     unfolding emptyFrom
-    empty-found empty = rw (eq-eqb _ _ empty, emptyFrom) at turn-empty
+    empty-found empty = rw (key-at slots i, eq-eqb _ _ empty, emptyFrom) at turn-empty
 
-    pub empty-on : (next : ℕ) → next ≡ nextSlot (length keys) i → (getD keys i 0 ≡ 0 → ⊥) → emptyFrom (n - 1) keys next ≡ r
+    pub empty-on : (next : ℕ) → next ≡ nextSlot (length slots / 2) i → (getD slots (2 * i) 0 ≡ 0 → ⊥) → emptyFrom (n - 1) (keysOf slots) next ≡ r
     unfolding emptyFrom
-    empty-on next e taken = rw e (rw (ne-eqb _ _ taken, emptyFrom) at turn-empty)
+    empty-on next e taken = rw e (rw (key-at slots i, ne-eqb _ _ taken, emptyFrom, keys-whole slots (table .whole)) at turn-empty)
 
 -- ---- where probes end
 

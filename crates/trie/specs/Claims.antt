@@ -1,6 +1,6 @@
 -- What is claimed of the definitions of `Trie`: where probes start and end, which bits a character has, that an insertion sets
--- the bits that a lookup tests, and that a walk may step from the numbers that it has read. Proofs: `proofs/Slots.antt`,
--- `proofs/Probes.antt`, `proofs/Steps.antt`.
+-- the bits that a lookup tests, that a walk may step from the numbers that it has read, and that the tables tell every number that is lent.
+-- Proofs: `proofs/Slots.antt`, `proofs/Probes.antt`, `proofs/Steps.antt`, `proofs/Packed.antt`.
 -- Assumes nothing.
 use Prim.Native.Nat.{ℕ, _-_, _%_, _^_, _≤_, _<_}
 use mathlib.Core.Bool.{true}
@@ -9,7 +9,7 @@ use mathlib.Core.Path.{_≡_}
 use lib.ListN.{length, getD}
 use Rattle.trie.specs.declared.ParentRef.the-variants.{RootEntry, Slot}
 use Rattle.trie.specs.declared.Probe.the-variants.{Found, Empty}
-use Rattle.trie.specs.Trie.{CharTrie, SlotCount, startSlot, probeOf, emptySlot, keyBit, childBit, bitsAt, withBits, testedStep, stepFrom}
+use Rattle.trie.specs.Trie.{CharTrie, trieOf, SlotCount, startSlot, probeOf, emptySlot, keyBit, childBit, bitsAt, withBits, testedStep, stepFrom}
 use Rattle.trie.specs.SlotCounts.{slotCount}
 
 -- the test of a number of slots is true of exactly the numbers that 01 allows
@@ -57,3 +57,7 @@ allOnes = 2 ^ 64 - 1
 -- a step from a root entry is a step from all ones and its child
 abbrev pub StepsFromRootEntry : Type 0
 StepsFromRootEntry = (t : CharTrie) (i ch : ℕ) → testedStep t (RootEntry i) ch ≡ stepFrom (t .keys) allOnes (getD (t .rootChildren) i 0) ch
+
+-- what a contract says of the tables, it says of the slices, number for number
+abbrev pub TablesTellSlices : Type 0
+TablesTellSlices = (roots slots roots′ slots′ : List ℕ) → trieOf roots slots ≡ trieOf roots′ slots′ → (roots ≡ roots′) × (slots ≡ slots′)

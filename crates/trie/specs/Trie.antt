@@ -3,12 +3,12 @@
 -- Assumes nothing.
 use Prim.Native.Nat.{ℕ, zero, suc, _+_, _-_, _*_, _/_, _%_, _^_, _≤_}
 use mathlib.Core.Bool.{Bool, true, false, cond, _&&_}
-use mathlib.Core.List.{List, [], _∷_}
+use mathlib.Core.List.{List, [], _∷_, map}
 use mathlib.Core.Path.{_≡_}
 use lib.Count.{leadingZeros}
 use lib.Dec.{eqb, ltb}
 use lib.IntN.{ℤ, pos, negsuc}
-use lib.ListN.{length, getD, set}
+use lib.ListN.{length, getD, set, drop}
 use Rattle.arith.specs.Bits.{hasBit, withBit}
 use Rattle.trie.specs.declared.ParentRef.{ParentRef}
 use Rattle.trie.specs.declared.ParentRef.the-variants.{Root, RootEntry, Slot}
@@ -31,19 +31,50 @@ pub record CharTrie : Type 0 where
   pub children : List ℕ
   pub words : List ℤ
 
--- the tables, from a list for each slice
-abbrev pub trieOf : List ℕ → List ℤ → List ℕ → List ℕ → List ℤ → CharTrie
-trieOf rootChildren rootWords keys children words = record {
-  rootChildren = rootChildren;
-  rootWords = rootWords;
-  keys = keys;
-  children = children;
-  words = words;
-}
-
 -- "every word number -1"
 abbrev pub noWord : ℤ
 noWord = negsuc 0
+
+-- ---- the tables as they are lent: `roots`, a number for each root entry, and `slots`, two numbers for each slot
+
+-- a link, of 64 bits: a child in its low 32, and in its high 32 the word number and one, so that 0 is the link of an empty place
+unfoldable pub childOf : ℕ → ℕ
+childOf link = link % 2 ^ 32
+
+abbrev pub wordBefore : ℕ → ℤ
+wordBefore zero = noWord
+wordBefore (suc n) = pos n
+
+unfoldable pub wordOf : ℕ → ℤ
+wordOf link = wordBefore (link / 2 ^ 32)
+
+unfoldable pub childrenOf : List ℕ → List ℕ
+childrenOf links = map childOf links
+
+unfoldable pub wordsOf : List ℕ → List ℤ
+wordsOf links = map wordOf links
+
+-- the first of every two numbers; a last one that stands alone is a first one
+unfoldable pub firsts : List ℕ → List ℕ
+firsts [] = []
+firsts (x ∷ []) = x ∷ []
+firsts (x ∷ y ∷ xs) = x ∷ firsts xs
+
+-- a slot is a key and then a link; of an odd number of numbers there is a key more than links
+unfoldable pub keysOf : List ℕ → List ℕ
+keysOf slots = firsts slots
+
+unfoldable pub linksOf : List ℕ → List ℕ
+linksOf slots = firsts (drop 1 slots)
+
+abbrev pub trieOf : List ℕ → List ℕ → CharTrie
+trieOf roots slots = record {
+  rootChildren = childrenOf roots;
+  rootWords = wordsOf roots;
+  keys = keysOf slots;
+  children = childrenOf (linksOf slots);
+  words = wordsOf (linksOf slots);
+}
 
 -- "a word number other than -1 and 0 to the records used less 1" is damage
 unfoldable pub wordNumber : ℕ → ℤ → WordNumber
@@ -64,6 +95,12 @@ log2 n = 63 - leadingZeros 64 n
 -- a power of two, from 2^4 to 2^22: the numbers of slots that 01 allows
 unfoldable pub SlotCount : ℕ → Type 0
 SlotCount n = (n ≡ 2 ^ log2 n) × (4 ≤ log2 n) × (log2 n ≤ 22)
+
+-- so many numbers are the slots of a table, two for each, and the shift is the exponent of "divided by 2^(64 - log2 slots)"
+pub record SlotTable (numbers shift : ℕ) : Type 0 where
+  pub slotCount : SlotCount (numbers / 2)
+  pub whole : numbers % 2 ≡ 0
+  pub shifted : shift ≡ 64 - log2 (numbers / 2)
 
 -- "Start slot: key × 0x9E3779B97F4A7C15, where the product is taken modulo 2^64, divided by 2^(64 - log2 slots)"
 unfoldable pub startSlot : ℕ → ℕ → ℕ

@@ -7,15 +7,17 @@
 //! filter of the characters its own children start with. One probe per character, and no probe at all for the common case of a
 //! character that is not a child.
 //!
-//! The tables are lent, as parallel slices of equal length: the root's children and word numbers; the slots' keys, children and
-//! word numbers. They need not have been filled here, so a probe that meets neither its key nor an empty slot ends after one
-//! round, and a stored word number that names no record is told apart.
+//! The tables are lent: the root's entries, one number each, and the slots, two numbers each, a key and beside it a link. They
+//! need not have been filled here, so a probe that meets neither its key nor an empty slot ends after one round, and a stored
+//! word number that names no record is told apart.
 ghost use mathlib.Core.Path.{_≡_};
-ghost use Prim.Native.Nat.{_-_, _^_, _<_};
-ghost use lib.ListN.{length, getD};
-ghost use Rattle.trie.specs.Trie.{noWord, wordNumber, keyOf, log2, SlotCount, keyBit, childBit};
+ghost use Prim.Native.Nat.{_+_, _-_, _/_, _^_, _<_};
+ghost use lib.IntN.{pos};
+ghost use lib.ListN.{length, getD, set};
+ghost use Rattle.arith.specs.Bits.{withBit};
+ghost use Rattle.trie.specs.Trie.{noWord, wordNumber, childOf, wordOf, keysOf, linksOf, keyOf, log2, SlotCount, keyBit, childBit};
 ghost use Rattle.trie.specs.SlotCounts.{slotCount};
-ghost use Rattle.trie.specs.Lent.{was};
+ghost use Rattle.trie.specs.Lent.{was, became};
 
 // A slot's key is parent × 2^21 + character + 1 in its low 48 bits, and has the first child filter in its high 16 bits.
 const CHARS: u64 = 0x20_0000;
@@ -120,23 +122,86 @@ pub fn shift_of(slots: usize) -> u32
     usize::leading_zeros(slots) + 1
 }
 
-// What the word number at i says, where the records from 0 on to the number used are in use. The only place where a signed
-// number is read.
-pub fn word_number(words: &[i32], i: usize, used: usize) -> WordNumber
-    requires { ⌜ i < length (now words) ⌝ }
-    ensures { λ r. ⌜ r ≡ wordNumber used (getD (was words) i noWord) ⌝ }
+// A link, which is a root entry or what a slot has beside its key, is a child in its low 32 bits, and in its high 32 the word
+// number plus one. So where no word ends there is a 0, and an empty place is 0 as a whole.
+const HALF: u64 = 0x1_0000_0000;
+
+// The high half of a link at which no word ends.
+const NO_WORD: u64 = 0;
+
+// The child of a link.
+pub fn child_of(link: u64) -> u32
+    ensures { λ r. ⌜ r ≡ childOf link ⌝ }
 {
-    let w = words[i];
-    // The sign first: of a word that is held, which is what a cut writes, two tests are enough.
-    if w < 0 {
-        if w == -1 {
-            return WordNumber::NoWord;
-        }
+    (link % HALF) as u32
+}
+
+// What the word number of a link says, where the records from 0 on to the number used are in use.
+pub fn word_number(link: u64, used: usize) -> WordNumber
+    ensures { λ r. ⌜ r ≡ wordNumber used (wordOf link) ⌝ }
+{
+    let number = link / HALF;
+    if number == NO_WORD {
+        return WordNumber::NoWord;
+    }
+    let n = number as usize;
+    if used < n {
         return WordNumber::Bad;
     }
-    let n = w as usize;
-    if n < used {
-        return WordNumber::Record(n);
-    }
-    WordNumber::Bad
+    WordNumber::Record(n - 1)
+}
+
+// A link whose child has gained a bit.
+pub fn with_child_bit(link: u64, bit: u32) -> u64
+    requires { ⌜ bit < 32 ⌝ }
+    ensures { λ r. ⌜ (childOf r ≡ withBit (childOf link) bit) × (wordOf r ≡ wordOf link) ⌝ }
+{
+    arith::set_bit_u64(link, bit)
+}
+
+// A link with another word number.
+pub fn with_word(link: u64, number: u32) -> u64
+    requires { ⌜ number + 1 < 2 ^ 32 ⌝ }
+    ensures { λ r. ⌜ (childOf r ≡ childOf link) × (wordOf r ≡ pos number) ⌝ }
+{
+    (number as u64 + 1) * HALF + link % HALF
+}
+
+// The link of a new node, at which no word ends.
+pub fn new_link(node: u32) -> u64
+    ensures { λ r. ⌜ (childOf r ≡ node) × (wordOf r ≡ noWord) ⌝ }
+{
+    NO_WORD * HALF + node as u64
+}
+
+// The key of slot i, with its filter: the first of the slot's two numbers.
+pub fn key_at(slots: &[u64], i: usize) -> u64
+    requires { ⌜ i < length (now slots) / 2 ⌝ }
+    ensures { λ r. ⌜ r ≡ getD (keysOf (was slots)) i 0 ⌝ }
+{
+    slots[2 * i]
+}
+
+// The link of slot i: the second.
+pub fn link_at(slots: &[u64], i: usize) -> u64
+    requires { ⌜ i < length (now slots) / 2 ⌝ }
+    ensures { λ r. ⌜ r ≡ getD (linksOf (was slots)) i 0 ⌝ }
+{
+    slots[2 * i + 1]
+}
+
+// Slot i gets another key, and keeps its link.
+pub fn set_key(slots: &mut [u64], i: usize, key: u64)
+    requires { ⌜ i < length (now slots) / 2 ⌝ }
+    ensures { λ _. ⌜ (keysOf (became slots) ≡ set (keysOf (was slots)) i key) × (linksOf (became slots) ≡ linksOf (was slots)) ⌝ }
+{
+    slots[2 * i] = key;
+}
+
+// Slot i gets another link, and keeps its key.
+pub fn set_link(slots: &mut [u64], i: usize, link: u64)
+    requires { ⌜ i < length (now slots) / 2 ⌝ }
+    ensures { λ _. ⌜ (keysOf (became slots) ≡ keysOf (was slots)) × (linksOf (became slots) ≡ set (linksOf (was slots)) i link) ⌝ }
+{
+    slots[2 * i + 1] = link;
 }

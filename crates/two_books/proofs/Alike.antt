@@ -1,9 +1,9 @@
 -- Cuts of one sentence by two vocabularies. A cut takes the words of a vocabulary only at the positions of the sentence's blocks, and of what follows a
 -- position only up to the block's end. So where the two agree on these, and on the total, every cut is the same: by congruence, block by block.
 -- Assumes nothing.
-use mathlib.Core.Path.{_≡_, refl, sym, ap, _∙_}
+use mathlib.Core.Path.{_≡_, refl, ap, _∙_}
 use mathlib.Core.Bool.{Bool, true, false, cond, _&&_, Bool·beq}
-use mathlib.Core.List.{List, [], _∷_, _++_, append-assoc}
+use mathlib.Core.List.{List, [], _∷_, _++_}
 use mathlib.Core.Option.{Option, none, some}
 use Prim.Native.Nat.{ℕ, _+_, _%_, _≤_}
 use borrow.Author.Tests.{leb-true}

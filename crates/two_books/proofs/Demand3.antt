@@ -3,34 +3,32 @@
 -- and a cut takes nothing else (`Alike`).
 -- Assumes nothing.
 use mathlib.Core.Path.{_≡_, refl, sym, ap, subst, _∙_}
-use mathlib.Core.Bool.{Bool, true, false, cond}
+use mathlib.Core.Bool.{false}
 use mathlib.Core.List.{List, [], _∷_, _++_}
-use mathlib.Core.Option.{Option, none, some}
+use mathlib.Core.Option.{some}
 use Prim.Native.Nat.{ℕ, zero, suc, _+_, _≤_}
 use native.Mathlib.Omega.{arith}
 use borrow.Author.Tests.{le-leb}
-use lib.Dec.{leb}
 use lib.ListN.{length, take, drop}
 use Rattle.classes.specs.Blocks.{cutClass, cutAllClass}
-use Rattle.utf8.specs.Encoding.{Scalar, Scalars}
+use Rattle.utf8.specs.Encoding.{Scalars}
 use Rattle.utf8.specs.Text.{charsOf}
 use Rattle.utf8.proofs.Texts.{texts-only-of-encodings}
 use Rattle.book.specs.Returns.{Book, longestText}
-use Rattle.book.specs.Prefixes.{Walked, wordsFrom}
-use Rattle.built.specs.Ledger.{Entry, frequencyIn, sumOf, wordsAfter, ledgerWords}
+use Rattle.book.specs.Prefixes.{wordsFrom}
+use Rattle.built.specs.Ledger.{Entry, frequencyIn, sumOf, ledgerWords}
 use Rattle.built.specs.Calls.{BuiltByCalls}
 use Rattle.built.specs.Claims.{SamePrefixes}
 use Rattle.built.proofs.Claims.{walk-as-ledger, lookup-as-ledger, total-is-sum, ledger-each-once, no-damage, same-words}
 use Rattle.cuts.specs.declared.TokenizeMode.{TokenizeMode}
 use Rattle.cuts.specs.declared.TokenizeMode.the-variants.{Default, Search}
 use Rattle.cuts.specs.Blocks.{blocksOf}
-use Rattle.cuts.specs.Edges.{Vocabulary, vocabularyOf}
-use Rattle.cuts.specs.Tokens.{Written}
-use Rattle.cuts.specs.Cuts.{CutAnswer, Tested, testedBook, cutBlock, cutAllBlock, searchBlock, cutBlocks, start, cutWith, cutBy, cutAllBy, cutForSearchBy}
+use Rattle.cuts.specs.Edges.{vocabularyOf}
+use Rattle.cuts.specs.Cuts.{CutAnswer, Tested, testedBook, cutBlock, cutAllBlock, searchBlock, cutBlocks, start, cutBy, cutAllBy, cutForSearchBy}
 use Rattle.cuts.specs.Cuts.{cutOf, cutAllOf, cutForSearchOf, tokenizeOf}
 use Rattle.two_books.specs.HeldWords.{heldVocabulary, sound, heldCut, heldCutAll, heldCutForSearch, heldTokenize, heldAnswer}
 use Rattle.two_books.specs.Runs.{ledgerOf, Cutter, Cut, CutAll, CutForSearch, Tokenize, Areas, Answered}
-use Rattle.two_books.specs.Demand3.{orNone, charactersOf, stretch, SameStretches, EqualAreas, HeldAsLedger, FromHeldWords, Demand3}
+use Rattle.two_books.specs.Demand3.{charactersOf, SameStretches, EqualAreas, HeldAsLedger, FromHeldWords, Demand3}
 use Rattle.two_books.proofs.Alike.{Everywhere, Shortens, cut-alike, search-alike, all-alike, tests-alike}
 use Rattle.two_books.proofs.Undamaged.{Fine, fine-cut, fine-search, fine-all, fine-blocks, fine-tests}
 use Rattle.two_books.proofs.Runs.{run-built, run-in-turn}

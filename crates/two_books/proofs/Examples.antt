@@ -18,8 +18,8 @@ use Rattle.trie.specs.Trie.{getOf, walk, wordAt, wordNumber, testedStep, openSt
 use Rattle.trie.specs.Trie.{keyOf, filterHash, keyBit, childBit, reach, newSlots, withBits, withWord, emptyFrom, emptySlot, extend, insert}
 use Rattle.trie.specs.SlotCounts.{slotCount}
 use Rattle.arith.specs.Bits.{hasBit, withBit}
-use Rattle.book.specs.Returns.{allowed, headDamaged, emptyBook, lookupOf}
-use Rattle.book.specs.Enter.{decide, emptySlots, replaced, inserted, loadLines, loadOf}
+use Rattle.book.specs.Returns.{cellFrequency, allowed, headDamaged, emptyBook, lookupOf}
+use Rattle.book.specs.Enter.{decide, emptySlots, cellWithFrequency, replaced, inserted, loadLines, loadOf}
 use Rattle.book.specs.Prefixes.{wordsFrom, walkOn}
 use Rattle.score.specs.Logarithm.{logFloat, L, logOf, highestOne, significand, nextBit, nextSignificand, bitsOf}
 use Rattle.score.specs.Scores.{floatOf}
@@ -41,7 +41,7 @@ examples : NotVacuous × EachPremiseNeeded
 unfolding charsOf charsWithin readFrom byteLength encode unitLength linesOf meaningOf fieldsOf pieces frequencyOf number whiteSpace inRanges cutClass han hanMain
     hanExtension asciiLetterOrDigit cutSign joins connector asciiLetter getOf walk wordAt wordNumber testedStep openStep bitsAt fromRoot nodeAt
     probeOf probeFrom nextSlot startSlot log2 keyOf filterHash keyBit childBit reach newSlots withBits withWord emptyFrom emptySlot extend insert
-    slotCount hasBit withBit allowed headDamaged emptyBook lookupOf decide emptySlots replaced inserted loadLines loadOf wordsFrom walkOn logFloat L
+    slotCount hasBit withBit cellFrequency allowed headDamaged emptyBook lookupOf decide emptySlots cellWithFrequency replaced inserted loadLines loadOf wordsFrom walkOn logFloat L
     logOf highestOne significand nextBit nextSignificand bitsOf floatOf blocksOf walksOf edgesWithin choose routeOf stepsFrom piecesOf joined cutRoute
     singly runsOf parts partsOf wordsOfSize searched tokenOf putSpans putWalks cutBlock searchBlock cutAllBlock cutBlocks cutWith cutOf cutAllOf
     cutForSearchOf tokenizeOf leadingZeros span climb size odd units round neg sum add sub lt eq ofInt whole addOf answersOf answerOf bookAfter

@@ -2,12 +2,11 @@
 -- answers and the last book are those that `built/specs/Calls.antt` defines. So the book is one that calls built, and its ledger the one beside it.
 -- Assumes nothing.
 use mathlib.Core.Path.{_≡_, refl, sym, ap, subst, _∙_}
-use mathlib.Core.List.{List, [], _∷_, _++_}
-use Prim.Native.Nat.{ℕ, suc}
+use mathlib.Core.List.{List, [], _∷_}
+use Prim.Native.Nat.{suc}
 use lib.ListN.{length, take}
 use Rattle.book.specs.Returns.{Book}
 use Rattle.book.specs.Enter.{LoadAnswer, AddAnswer}
-use Rattle.built.specs.Ledger.{Entry}
 use Rattle.built.specs.Calls.{Call, Load, Add, Answer, answer, answerOf, bookAfter, bookAfterAll, answersOf, ledgerAfterAll, bookFrom, answersFrom}
 use Rattle.built.specs.Calls.{BuiltByCalls, after}
 use Rattle.two_books.specs.Runs.{Went, Ran, ended, went, Run, ledgerOf}

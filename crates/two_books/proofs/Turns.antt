@@ -1,8 +1,8 @@
 -- "each call of the lists answers as it defines for the book that call got": by induction over the calls before it.
 -- Assumes nothing.
-use mathlib.Core.Path.{_≡_, refl, ap, _∙_}
+use mathlib.Core.Path.{_≡_, refl, ap}
 use mathlib.Core.List.{List, [], _∷_, _++_}
-use Prim.Native.Nat.{ℕ, suc}
+use Prim.Native.Nat.{suc}
 use lib.ListN.{length, take}
 use Rattle.book.specs.Returns.{Book}
 use Rattle.built.specs.Calls.{Call, Answer, answerOf, bookAfter, bookAfterAll, answersOf}

@@ -1,7 +1,7 @@
 -- "no cut meets damage there": a cut answers 8 for its head, or for a walk that met damage. Where the tests found no damage and no walk meets any, no
 -- cut answers 8, whatever else stops it.
 -- Assumes nothing.
-use mathlib.Core.Path.{_≡_, refl, sym, ap, _∙_}
+use mathlib.Core.Path.{_≡_, refl, ap}
 use mathlib.Core.Bool.{Bool, true, false, cond, _&&_}
 use mathlib.Core.List.{List, [], _∷_}
 use mathlib.Core.Logic.{_≢_}
@@ -17,7 +17,7 @@ use Rattle.book.specs.declared.Outcome.{Outcome}
 use Rattle.book.specs.declared.Outcome.the-variants.{Done, BadAreas, TooLong, Malformed, Damaged, WorkTooShort, EdgesFull, TokensFull}
 use Rattle.book.specs.Returns.{numberOf, isDone, longestText}
 use Rattle.book.specs.Prefixes.{Edge, Walked}
-use Rattle.cuts.specs.Blocks.{Block, blocksOf}
+use Rattle.cuts.specs.Blocks.{Block}
 use Rattle.cuts.specs.Edges.{Vocabulary, walksOf, Edges, edges, stopped, before, edgesWithin}
 use Rattle.cuts.specs.Tokens.{Span, Base, Written, written, put, hasPlace, tokenOf, tokenWidth}
 use Rattle.cuts.specs.Cuts.{CutAnswer, answer, andThen, putSpans, cutEdges, cutBlock, searchEdges, searchBlock, spansOf, putWalks, cutAllBlock}

@@ -2,14 +2,13 @@
 -- within the slots: so every step leads to a place of the tables. A lookup's step is what the code works out from each kind of place: from the root
 -- `firstStep`, from a root entry or a slot one from its child, with the bits of the key and the child first. An insertion's is `firstStep` where it uses
 -- the root table, and else what the probe for the place's node says. Assumes nothing.
-use Prim.Native.Nat.{ℕ, _%_, _^_, _≤_, _<_}
+use Prim.Native.Nat.{ℕ, _/_, _%_, _^_, _≤_, _<_}
 use mathlib.Core.Path.{_≡_, refl, sym, _∙_, subst}
 use mathlib.Core.Bool.{Bool, true, false, cond, false≢true}
 use mathlib.Core.List.{List, [], _∷_}
 use native.Mathlib.Omega.{arith}
 use borrow.Author.Tests.{ltb-true, lt-ltb, le-ltb, eq-eqb, ne-eqb}
 use lib.Dec.{ltb, eqb}
-use lib.IntN.{ℤ}
 use lib.ListN.{length, getD}
 use Rattle.trie.specs.declared.ParentRef.{ParentRef}
 use Rattle.trie.specs.declared.ParentRef.the-variants.{Root, RootEntry, Slot}
@@ -19,12 +18,14 @@ use Rattle.trie.specs.declared.Step.{Step}
 use Rattle.trie.specs.declared.Step.the-variants.{At, Nothing, Damaged}
 use Rattle.trie.specs.declared.WordNumber.{WordNumber}
 use Rattle.trie.specs.declared.WordNumber.the-variants.{NoWord}
-use Rattle.trie.specs.Trie.{CharTrie, noWord, wordNumber, wordAt, SlotCount, keyOf, nodeAt, fromRoot, probeOf, stepByProbe, rootStep, slotStep, openStep}
+use Rattle.trie.specs.Trie.{CharTrie, childOf, wordOf, childrenOf, keysOf, linksOf, wordNumber, wordAt, SlotCount, SlotTable, keyOf, nodeAt, fromRoot}
+use Rattle.trie.specs.Trie.{probeOf, stepByProbe, rootStep, slotStep, openStep}
 use Rattle.trie.specs.Trie.{bitsAt, testedStep, stepFrom, walk, trieOf}
 use Rattle.trie.specs.Claims.{allOnes}
+use Rattle.trie.proofs.Packed.{length-children, child-at, word-at, keys-whole}
 use Rattle.trie.proofs.Probes.{found-has-key}
 use Rattle.trie.proofs.Steps.{steps-from-slot, steps-from-root-entry}
-use Rattle.walk.specs.Walk.{EquallyLong, Inside, firstStep}
+use Rattle.walk.specs.Walk.{Inside, firstStep}
 use Rattle.walk.specs.Claims.{FirstStepIsOpen, FirstStepIsTested, OpenStepsInside, TestedStepsInside, WalksInside}
 
 -- ---- the root's step
@@ -107,62 +108,73 @@ pub walks-inside : WalksInside
 unfolding Inside
 walks-inside t q cs allowed e = subst (LeadsInside t) e (walk-inside t allowed cs Root tt)
 
--- the same of a step that the code has taken, which does not read the word numbers
-module _ (rootChildren keys children : List ℕ) (allowed : SlotCount (length keys)) (p q : ParentRef) (ch : ℕ) (r : Step) (at : r ≡ At q) where
-  pub leads-tested : ((rootWords words : List ℤ) → r ≡ testedStep (trieOf rootChildren rootWords keys children words) p ch)
-      → Inside (length rootChildren) (length keys) q
-  leads-tested step = tested-steps-inside (trieOf rootChildren [] keys children []) p q ch allowed (sym (step [] []) ∙ at)
+-- ---- the tables as they are lent
 
-  pub leads-open : ((rootWords words : List ℤ) → r ≡ openStep (trieOf rootChildren rootWords keys children words) p ch)
-      → Inside (length rootChildren) (length keys) q
-  leads-open step = open-steps-inside (trieOf rootChildren [] keys children []) p q ch allowed (sym (step [] []) ∙ at)
+-- a root entry and a slot, of as many as the numbers that are lent are
+module _ (roots slots : List ℕ) (shift : ℕ) (table : SlotTable (length slots) shift) where
+  pub counted : SlotCount (length (keysOf slots))
+  counted = rw (keys-whole slots (table .whole)) (table .slotCount)
+
+  pub inside-lent : (q : ParentRef) → Inside (length (childrenOf roots)) (length (keysOf slots)) q → Inside (length roots) (length slots / 2) q
+  inside-lent q inside = rw (length-children roots, keys-whole slots (table .whole)) at inside
+
+  -- where a step that the code has taken leads
+  module _ (p q : ParentRef) (ch : ℕ) (r : Step) (at : r ≡ At q) where
+    pub leads-tested : r ≡ testedStep (trieOf roots slots) p ch → Inside (length roots) (length slots / 2) q
+    leads-tested step = inside-lent q (tested-steps-inside (trieOf roots slots) p q ch counted (sym step ∙ at))
+
+    pub leads-open : r ≡ openStep (trieOf roots slots) p ch → Inside (length roots) (length slots / 2) q
+    leads-open step = inside-lent q (open-steps-inside (trieOf roots slots) p q ch counted (sym step ∙ at))
+
+  -- and a walk from the root
+  pub leads-walk : (q : ParentRef) (cs : List ℕ) → walk (trieOf roots slots) Root cs ≡ At q → Inside (length roots) (length slots / 2) q
+  leads-walk q cs e = inside-lent q (walks-inside (trieOf roots slots) q cs counted e)
 
 pub starts-inside : (roots slots : ℕ) → Inside roots slots Root
 unfolding Inside
 starts-inside roots slots = tt
 
--- a place has a word number where it has a child
-pub word-inside : (rootChildren : List ℕ) (rootWords : List ℤ) (keys children : List ℕ) (words : List ℤ) (p : ParentRef)
-    → EquallyLong rootChildren rootWords keys children words → Inside (length rootChildren) (length keys) p → Inside (length rootWords) (length words) p
-word-inside rootChildren rootWords keys children words p long inside = rw (long .rootEntries, long .slotWords) inside
-
 -- ---- what the code reads at a place
 
-module _ (roots slots i : ℕ) (place : ParentRef) (inside : Inside roots slots place) where
+module _ (roots numbers i : ℕ) (place : ParentRef) (inside : Inside roots (numbers / 2) place) where
   pub entry-inside : place ≡ RootEntry i → i < roots
   unfolding Inside
   entry-inside e = rw e at inside
 
-  pub slot-inside : (n : ℕ) → n ≡ slots → place ≡ Slot i → i < n
+  pub slot-inside : place ≡ Slot i → i < numbers / 2
   unfolding Inside
-  slot-inside n same e = rw same (rw e at inside)
+  slot-inside e = rw e at inside
+
+  -- also in a table that is as long
+  pub slot-still : (after : ℕ) → after ≡ numbers → place ≡ Slot i → i < after / 2
+  slot-still after same e = rw same (slot-inside e)
 
 -- lengths that are the same keep a place inside
-pub inside-same : (roots slots roots′ slots′ : ℕ) (p : ParentRef) → roots′ ≡ roots → slots′ ≡ slots → Inside roots slots p → Inside roots′ slots′ p
+pub inside-same : (roots slots roots′ slots′ : ℕ) (p : ParentRef) → roots′ ≡ roots → slots′ ≡ slots → Inside roots (slots / 2) p → Inside roots′ (slots′ / 2) p
 inside-same roots slots roots′ slots′ p e s inside = rw (e, s) inside
 
 -- ---- the node at a place, and whether a step from it uses the root table, as the code finds them
 
-module _ (rootChildren : List ℕ) (rootWords : List ℤ) (keys children : List ℕ) (words : List ℤ) (place : ParentRef) where
+module _ (roots slots : List ℕ) (place : ParentRef) where
   abbrev tables : CharTrie
-  tables = trieOf rootChildren rootWords keys children words
+  tables = trieOf roots slots
 
   pub node-root : place ≡ Root → 0 ≡ nodeAt tables place
   unfolding nodeAt
   node-root e = rw e
 
-  pub node-entry : (i : ℕ) → place ≡ RootEntry i → getD rootChildren i 0 % 2 ^ 24 ≡ nodeAt tables place
+  pub node-entry : (i child : ℕ) → place ≡ RootEntry i → child ≡ childOf (getD roots i 0) → child % 2 ^ 24 ≡ nodeAt tables place
   unfolding nodeAt
-  node-entry i e = rw e
+  node-entry i child e read = rw (e, child-at roots i, read)
 
-  pub node-slot : (i : ℕ) → place ≡ Slot i → getD children i 0 % 2 ^ 24 ≡ nodeAt tables place
+  pub node-slot : (i link child : ℕ) → place ≡ Slot i → link ≡ getD (linksOf slots) i 0 → child ≡ childOf link → child % 2 ^ 24 ≡ nodeAt tables place
   unfolding nodeAt
-  node-slot i e = rw e
+  node-slot i link child e read half = rw (e, child-at (linksOf slots) i, ← read, half)
 
   module _ (ch : ℕ) where
-    pub root-tested : place ≡ Root → ltb ch (length rootChildren) ≡ fromRoot tables place ch
+    pub root-tested : place ≡ Root → ltb ch (length roots) ≡ fromRoot tables place ch
     unfolding fromRoot
-    root-tested e = rw e
+    root-tested e = rw (e, length-children roots)
 
     pub entry-not-root : (i : ℕ) → place ≡ RootEntry i → false ≡ fromRoot tables place ch
     unfolding fromRoot
@@ -172,74 +184,76 @@ module _ (rootChildren : List ℕ) (rootWords : List ℤ) (keys children : List 
     unfolding fromRoot
     slot-not-root i e = rw e
 
--- what they find depends on no other table: the entry of a first character lies inside, and a node has 24 bits
-pub has-entry : (rootChildren : List ℕ) (ch : ℕ) (p : ParentRef) (b : Bool)
-    → ((rootWords words : List ℤ) (keys children : List ℕ) → b ≡ fromRoot (trieOf rootChildren rootWords keys children words) p ch)
-    → b ≡ true → ch < length rootChildren
-has-entry rootChildren ch p b tested e = only-first (trieOf rootChildren [] [] [] []) p ch (sym (tested [] [] [] []) ∙ e) .1
+-- the entry of a first character lies inside, and a node has 24 bits
+pub has-entry : (roots : List ℕ) (ch : ℕ) (p : ParentRef) (b : Bool)
+    → ((slots : List ℕ) → b ≡ fromRoot (trieOf roots slots) p ch) → b ≡ true → ch < length roots
+has-entry roots ch p b tested e = rw (length-children roots) at (only-first (trieOf roots []) p ch (sym (tested []) ∙ e) .1)
 
-module _ (rootChildren children : List ℕ) where
-  node-of : (p : ParentRef) → nodeAt (trieOf rootChildren [] [] children []) p < 2 ^ 24
+module _ (t : CharTrie) where
+  node-of : (p : ParentRef) → nodeAt t p < 2 ^ 24
   unfolding nodeAt
   node-of Root = omega arith
   node-of (RootEntry i) = omega arith
   node-of (Slot i) = omega arith
 
-  pub node-below : (p : ParentRef) (node : ℕ)
-      → ((rootWords words : List ℤ) (keys : List ℕ) → node ≡ nodeAt (trieOf rootChildren rootWords keys children words) p) → node < 2 ^ 24
-  node-below p node is = rw (is [] [] []) (node-of p)
+  pub node-below : (p : ParentRef) (node : ℕ) → node ≡ nodeAt t p → node < 2 ^ 24
+  node-below p node is = rw is (node-of p)
 
 -- ---- the root's step as the code takes it
 
-module _ (rootChildren keys : List ℕ) (ch : ℕ) where
-  pub root-empty : ch < length rootChildren → getD rootChildren ch 0 ≡ 0 → Nothing ≡ firstStep rootChildren keys ch
+module _ (roots keys : List ℕ) (ch : ℕ) where
+  module _ (below : ch < length roots) (child : ℕ) (read : child ≡ childOf (getD roots ch 0)) where
+    pub root-empty : child ≡ 0 → Nothing ≡ firstStep (childrenOf roots) keys ch
+    unfolding firstStep
+    root-empty empty = rw (length-children roots, lt-ltb _ _ below, child-at roots ch, ← read, eq-eqb _ _ empty)
+
+    pub root-taken : (child ≡ 0 → ⊥) → At (RootEntry ch) ≡ firstStep (childrenOf roots) keys ch
+    unfolding firstStep
+    root-taken taken = rw (length-children roots, lt-ltb _ _ below, child-at roots ch, ← read, ne-eqb _ _ taken)
+
+  pub root-slot : (r : Step) → length roots ≤ ch → r ≡ stepByProbe (probeOf keys (keyOf 0 ch)) → r ≡ firstStep (childrenOf roots) keys ch
   unfolding firstStep
-  root-empty below empty = rw (lt-ltb _ _ below, eq-eqb _ _ empty)
+  root-slot r beyond e = rw (length-children roots, le-ltb _ _ beyond) e
 
-  pub root-taken : ch < length rootChildren → (getD rootChildren ch 0 ≡ 0 → ⊥) → At (RootEntry ch) ≡ firstStep rootChildren keys ch
-  unfolding firstStep
-  root-taken below taken = rw (lt-ltb _ _ below, ne-eqb _ _ taken)
+-- ---- a step and a word number as the code works them out from a place
 
-  pub root-slot : (r : Step) → length rootChildren ≤ ch → r ≡ stepByProbe (probeOf keys (keyOf 0 ch)) → r ≡ firstStep rootChildren keys ch
-  unfolding firstStep
-  root-slot r beyond e = rw (le-ltb _ _ beyond) e
-
--- ---- a step and a word number as the code works them out from a place, whatever is in the tables that it does not read
-
-module _ (rootChildren : List ℕ) (rootWords : List ℤ) (keys children : List ℕ) (words : List ℤ) (place : ParentRef) (ch : ℕ) (r : Step) where
+module _ (roots slots : List ℕ) (place : ParentRef) (ch : ℕ) (r : Step) where
   abbrev t : CharTrie
-  t = trieOf rootChildren rootWords keys children words
+  t = trieOf roots slots
 
-  pub tested-at-root : place ≡ Root → r ≡ firstStep rootChildren keys ch → r ≡ testedStep t place ch
+  pub tested-at-root : place ≡ Root → r ≡ firstStep (childrenOf roots) (keysOf slots) ch → r ≡ testedStep t place ch
   tested-at-root e step = rw e (step ∙ sym (first-step-is-tested t ch))
 
-  module _ (i : ℕ) where
-    pub tested-at-entry : place ≡ RootEntry i → r ≡ stepFrom keys allOnes (getD rootChildren i 0) ch → r ≡ testedStep t place ch
-    tested-at-entry e step = rw e (step ∙ sym (steps-from-root-entry t i ch))
+  module _ (i child : ℕ) where
+    pub tested-at-entry : place ≡ RootEntry i → child ≡ childOf (getD roots i 0) → r ≡ stepFrom (keysOf slots) allOnes child ch → r ≡ testedStep t place ch
+    tested-at-entry e read step = rw e (rw (read, ← child-at roots i) at step ∙ sym (steps-from-root-entry t i ch))
 
-    pub tested-at-slot : place ≡ Slot i → r ≡ stepFrom keys (getD keys i 0) (getD children i 0) ch → r ≡ testedStep t place ch
-    tested-at-slot e step = rw e (step ∙ sym (steps-from-slot t i ch))
+    pub tested-at-slot : (filter link : ℕ) → place ≡ Slot i → filter ≡ getD (keysOf slots) i 0 → link ≡ getD (linksOf slots) i 0 → child ≡ childOf link
+        → r ≡ stepFrom (keysOf slots) filter child ch → r ≡ testedStep t place ch
+    tested-at-slot filter link e key read half step =
+        rw e (rw (half, read, ← child-at (linksOf slots) i, key) at step ∙ sym (steps-from-slot t i ch))
 
   module _ (b : Bool) (tested : b ≡ fromRoot t place ch) where
-    pub open-at-root : b ≡ true → r ≡ firstStep rootChildren keys ch → r ≡ openStep t place ch
+    pub open-at-root : b ≡ true → r ≡ firstStep (childrenOf roots) (keysOf slots) ch → r ≡ openStep t place ch
     open-at-root root step = rw (only-first t place ch (sym tested ∙ root) .0) (step ∙ sym (first-step-is-open t ch))
 
-    pub open-at-node : (node : ℕ) → b ≡ false → node ≡ nodeAt t place → r ≡ stepByProbe (probeOf keys (keyOf node ch)) → r ≡ openStep t place ch
+    pub open-at-node : (node : ℕ) → b ≡ false → node ≡ nodeAt t place → r ≡ stepByProbe (probeOf (keysOf slots) (keyOf node ch)) → r ≡ openStep t place ch
     unfolding openStep
     open-at-node node root is step = rw (← tested, root, openStep, ← is) step
 
-module _ (rootChildren : List ℕ) (rootWords : List ℤ) (keys children : List ℕ) (words : List ℤ) (used : ℕ) (place : ParentRef) where
+module _ (roots slots : List ℕ) (used : ℕ) (place : ParentRef) where
   abbrev t′ : CharTrie
-  t′ = trieOf rootChildren rootWords keys children words
+  t′ = trieOf roots slots
 
   pub word-at-root : place ≡ Root → NoWord ≡ wordAt used t′ place
   unfolding wordAt
   word-at-root e = rw e
 
-  pub word-at-entry : (i : ℕ) (r : WordNumber) → place ≡ RootEntry i → r ≡ wordNumber used (getD rootWords i noWord) → r ≡ wordAt used t′ place
+  pub word-at-entry : (i : ℕ) (r : WordNumber) → place ≡ RootEntry i → r ≡ wordNumber used (wordOf (getD roots i 0)) → r ≡ wordAt used t′ place
   unfolding wordAt
-  word-at-entry i r e number = rw e number
+  word-at-entry i r e number = rw (e, word-at roots i) number
 
-  pub word-at-slot : (i : ℕ) (r : WordNumber) → place ≡ Slot i → r ≡ wordNumber used (getD words i noWord) → r ≡ wordAt used t′ place
+  pub word-at-slot : (i link : ℕ) (r : WordNumber) → place ≡ Slot i → link ≡ getD (linksOf slots) i 0 → r ≡ wordNumber used (wordOf link)
+      → r ≡ wordAt used t′ place
   unfolding wordAt
-  word-at-slot i r e number = rw e number
+  word-at-slot i link r e read number = rw (e, word-at (linksOf slots) i, ← read) number

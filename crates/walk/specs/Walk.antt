@@ -6,7 +6,6 @@ use mathlib.Core.List.{List, [], _∷_}
 use mathlib.Core.Option.{Option, none, some}
 use mathlib.Core.Path.{_≡_}
 use lib.Dec.{eqb, ltb}
-use lib.IntN.{ℤ}
 use lib.ListN.{length, getD}
 use Rattle.trie.specs.declared.Got.{Got}
 use Rattle.trie.specs.declared.Got.the-variants.{Absent}
@@ -17,12 +16,6 @@ use Rattle.trie.specs.declared.Step.the-variants.{At, Nothing}
 use Rattle.trie.specs.Trie.{CharTrie, Reach, Reached, NoEnd, keyOf, probeOf, stepByProbe, walk, wordAt, getOf, reach, newSlots, newNodes}
 use Rattle.walk.specs.declared.Room.{Room}
 use Rattle.walk.specs.declared.Room.the-variants.{Whole, Partly}
-
--- "slices of one part of a book must be equally long"
-pub record EquallyLong (rootChildren : List ℕ) (rootWords : List ℤ) (keys children : List ℕ) (words : List ℤ) : Type 0 where
-  pub rootEntries : length rootWords ≡ length rootChildren
-  pub slotChildren : length children ≡ length keys
-  pub slotWords : length words ≡ length keys
 
 -- a place of a table with so many root entries and slots
 unfoldable pub Inside : ℕ → ℕ → ParentRef → Type 0

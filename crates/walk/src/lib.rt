@@ -4,11 +4,10 @@
 //! lookup tests the bits at each step, and an insertion tests none.
 ghost use mathlib.Core.Path.{_≡_};
 ghost use mathlib.Core.List.{List};
-ghost use lib.IntN.{ℤ};
 ghost use lib.ListN.{length};
-ghost use Prim.Native.Nat.{ℕ, _-_, _^_, _<_};
-ghost use Rattle.trie.specs.Trie.{log2, SlotCount, nodeAt, fromRoot, openStep, testedStep, wordAt, trieOf};
-ghost use Rattle.trie.specs.Lent.{was};
+ghost use Prim.Native.Nat.{ℕ, _/_, _^_, _<_};
+ghost use Rattle.trie.specs.Trie.{SlotTable, nodeAt, fromRoot, openStep, testedStep, wordAt, childrenOf, keysOf, trieOf};
+ghost use Rattle.trie.specs.Lent.{was, trieLent};
 ghost use Rattle.walk.specs.Walk.{Inside, firstStep};
 use trie::ParentRef;
 use trie::Step;
@@ -28,103 +27,92 @@ pub enum Room {
 }
 
 // The node at a place.
-pub fn node_at(root_children: &[u32], children: &[u32], place: ParentRef) -> u32
-    requires { ⌜ Inside (length (now «root_children»)) (length (now children)) place ⌝ }
-    ensures { λ r. ⌜
-        ((rootWords words : List ℤ) (keys : List ℕ)
-        → r ≡ nodeAt (trieOf (was «root_children») rootWords keys (was children) words) place)
-        ⌝ }
+pub fn node_at(roots: &[u64], slots: &[u64], place: ParentRef) -> u32
+    requires { ⌜ Inside (length (now roots)) (length (now slots) / 2) place ⌝ }
+    ensures { λ r. ⌜ r ≡ nodeAt (trieLent roots slots) place ⌝ }
 {
     match place {
         ParentRef::Root => 0,
-        ParentRef::RootEntry(i) => root_children[i] % trie::NODES,
-        ParentRef::Slot(i) => children[i] % trie::NODES,
+        ParentRef::RootEntry(i) => trie::child_of(roots[i]) % trie::NODES,
+        ParentRef::Slot(i) => trie::child_of(trie::link_at(slots, i)) % trie::NODES,
     }
 }
 
 // Whether a step uses the root table: that of a first character that has an entry there.
-pub fn from_root(root_children: &[u32], place: ParentRef, ch: u32) -> bool
-    ensures { λ r. ⌜
-        ((rootWords words : List ℤ) (keys children : List ℕ)
-        → r ≡ fromRoot (trieOf (was «root_children») rootWords keys children words) place ch)
-        ⌝ }
+pub fn from_root(roots: &[u64], place: ParentRef, ch: u32) -> bool
+    ensures { λ r. ⌜ ((slots : List ℕ) → r ≡ fromRoot (trieOf (was roots) slots) place ch) ⌝ }
 {
     match place {
-        ParentRef::Root => (ch as usize) < root_children.len(),
+        ParentRef::Root => (ch as usize) < roots.len(),
         ParentRef::RootEntry(_) => false,
         ParentRef::Slot(_) => false,
     }
 }
 
 // The root's step: by the root table, or among the slots where the table is too short.
-pub fn root_step(root_children: &[u32], keys: &[u64], shift: u32, ch: u32) -> Step
-    requires { ⌜ SlotCount (length (now keys)) ⌝ }
-    requires { ⌜ shift ≡ 64 - log2 (length (now keys)) ⌝ }
+pub fn root_step(roots: &[u64], slots: &[u64], shift: u32, ch: u32) -> Step
+    requires { ⌜ SlotTable (length (now slots)) shift ⌝ }
     requires { ⌜ ch < 2 ^ 21 ⌝ }
-    ensures { λ r. ⌜ r ≡ firstStep (was «root_children») (was keys) ch ⌝ }
+    ensures { λ r. ⌜ r ≡ firstStep (childrenOf (was roots)) (keysOf (was slots)) ch ⌝ }
 {
     let i = ch as usize;
-    if i < root_children.len() {
-        if root_children[i] == 0 {
+    if i < roots.len() {
+        if trie::child_of(roots[i]) == 0 {
             return Step::Nothing;
         }
         return Step::At(ParentRef::RootEntry(i));
     }
-    char_trie::slot_step(keys, shift, 0, ch)
+    char_trie::slot_step(slots, shift, 0, ch)
 }
 
 // A lookup's step: it tests the bits.
-pub fn tested_step(
-    root_children: &[u32],
-    keys: &[u64],
-    children: &[u32],
-    shift: u32,
-    place: ParentRef,
-    ch: u32,
-) -> Step
-    requires { ⌜ (length (now children) ≡ length (now keys)) × SlotCount (length (now keys)) ⌝ }
-    requires { ⌜ shift ≡ 64 - log2 (length (now keys)) ⌝ }
-    requires { ⌜ Inside (length (now «root_children»)) (length (now keys)) place × (ch < 2 ^ 21) ⌝ }
-    ensures { λ r. ⌜ ((rootWords words : List ℤ) → r ≡ testedStep (trieOf (was «root_children») rootWords (was keys) (was children) words) place ch) ⌝ }
+pub fn tested_step(roots: &[u64], slots: &[u64], shift: u32, place: ParentRef, ch: u32) -> Step
+    requires { ⌜ SlotTable (length (now slots)) shift ⌝ }
+    requires { ⌜ Inside (length (now roots)) (length (now slots) / 2) place × (ch < 2 ^ 21) ⌝ }
+    ensures { λ r. ⌜ r ≡ testedStep (trieLent roots slots) place ch ⌝ }
 {
     match place {
-        ParentRef::Root => root_step(root_children, keys, shift, ch),
-        ParentRef::RootEntry(i) => char_trie::step(keys, shift, ALL_ONES, root_children[i], ch),
+        ParentRef::Root => root_step(roots, slots, shift, ch),
+        ParentRef::RootEntry(i) => char_trie::step(
+            slots,
+            shift,
+            ALL_ONES,
+            trie::child_of(roots[i]),
+            ch,
+        ),
         ParentRef::Slot(i) => {
-            let filter = keys[i];
-            char_trie::step(keys, shift, filter, children[i], ch)
+            let filter = trie::key_at(slots, i);
+            char_trie::step(
+                slots,
+                shift,
+                filter,
+                trie::child_of(trie::link_at(slots, i)),
+                ch,
+            )
         }
     }
 }
 
 // An insertion's step: it tests no bits.
-pub fn open_step(
-    root_children: &[u32],
-    keys: &[u64],
-    children: &[u32],
-    shift: u32,
-    place: ParentRef,
-    ch: u32,
-) -> Step
-    requires { ⌜ (length (now children) ≡ length (now keys)) × SlotCount (length (now keys)) ⌝ }
-    requires { ⌜ shift ≡ 64 - log2 (length (now keys)) ⌝ }
-    requires { ⌜ Inside (length (now «root_children»)) (length (now keys)) place × (ch < 2 ^ 21) ⌝ }
-    ensures { λ r. ⌜ ((rootWords words : List ℤ) → r ≡ openStep (trieOf (was «root_children») rootWords (was keys) (was children) words) place ch) ⌝ }
+pub fn open_step(roots: &[u64], slots: &[u64], shift: u32, place: ParentRef, ch: u32) -> Step
+    requires { ⌜ SlotTable (length (now slots)) shift ⌝ }
+    requires { ⌜ Inside (length (now roots)) (length (now slots) / 2) place × (ch < 2 ^ 21) ⌝ }
+    ensures { λ r. ⌜ r ≡ openStep (trieLent roots slots) place ch ⌝ }
 {
-    if from_root(root_children, place, ch) {
-        return root_step(root_children, keys, shift, ch);
+    if from_root(roots, place, ch) {
+        return root_step(roots, slots, shift, ch);
     }
-    char_trie::slot_step(keys, shift, node_at(root_children, children, place), ch)
+    char_trie::slot_step(slots, shift, node_at(roots, slots, place), ch)
 }
 
 // What the word number at a place says.
-pub fn word_at(root_words: &[i32], words: &[i32], used: usize, place: ParentRef) -> WordNumber
-    requires { ⌜ Inside (length (now «root_words»)) (length (now words)) place ⌝ }
-    ensures { λ r. ⌜ ((rootChildren keys children : List ℕ) → r ≡ wordAt used (trieOf rootChildren (was «root_words») keys children (was words)) place) ⌝ }
+pub fn word_at(roots: &[u64], slots: &[u64], used: usize, place: ParentRef) -> WordNumber
+    requires { ⌜ Inside (length (now roots)) (length (now slots) / 2) place ⌝ }
+    ensures { λ r. ⌜ r ≡ wordAt used (trieLent roots slots) place ⌝ }
 {
     match place {
         ParentRef::Root => WordNumber::NoWord,
-        ParentRef::RootEntry(i) => trie::word_number(root_words, i, used),
-        ParentRef::Slot(i) => trie::word_number(words, i, used),
+        ParentRef::RootEntry(i) => trie::word_number(roots[i], used),
+        ParentRef::Slot(i) => trie::word_number(trie::link_at(slots, i), used),
     }
 }

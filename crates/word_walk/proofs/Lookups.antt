@@ -1,12 +1,11 @@
 -- A lookup along a text, a character at a time. The steps of a text from a position on are the step of the character that is read there, and from
 -- where it leads those of the text after it. Where they all lead, the word number there says what is found.
 -- Assumes nothing.
-use Prim.Native.Nat.{ℕ, _+_, _≤_}
+use Prim.Native.Nat.{ℕ, _+_, _/_, _≤_}
 use mathlib.Core.Path.{_≡_, refl, sym, ap, _∙_}
 use mathlib.Core.List.{List}
 use mathlib.Core.Option.{Option, none, some, IsSome}
 use native.Mathlib.Omega.{arith}
-use lib.IntN.{ℤ}
 use lib.ListN.{length}
 use Rattle.trie.specs.declared.Got.{Got}
 use Rattle.trie.specs.declared.Got.the-variants.{Held, Absent}
@@ -16,13 +15,13 @@ use Rattle.trie.specs.declared.Step.{Step}
 use Rattle.trie.specs.declared.Step.the-variants.{At, Nothing, Damaged}
 use Rattle.trie.specs.declared.WordNumber.{WordNumber}
 use Rattle.trie.specs.declared.WordNumber.the-variants.{NoWord, Record, Bad}
-use Rattle.trie.specs.Trie.{CharTrie, SlotCount, testedStep, walk, wordAt, gotByWord, getOf, trieOf}
+use Rattle.trie.specs.Trie.{CharTrie, SlotTable, testedStep, walk, wordAt, gotByWord, getOf, trieOf}
 use Rattle.utf8.specs.declared.Character.the-variants.{Char}
 use Rattle.utf8.specs.Characters.{characterAt}
 use Rattle.utf8.specs.Text.{before, charsFrom}
 use Rattle.utf8.proofs.Positions.{from-char, from-end, still-chars}
-use Rattle.walk.specs.Walk.{EquallyLong, Inside, walkFrom, gotOf}
-use Rattle.walk.proofs.Places.{walks-inside, word-inside}
+use Rattle.walk.specs.Walk.{Inside, walkFrom, gotOf}
+use Rattle.walk.proofs.Places.{leads-walk}
 
 -- ---- a lookup, from a position of a text on, by the step of the character there
 
@@ -42,36 +41,23 @@ module _ (t : CharTrie) (p : ParentRef) (ch : ℕ) where
   walk-breaks none some-chars e = absurd some-chars
   walk-breaks (some cs) some-chars e = rw (e, walk)
 
--- the steps of some characters from a place lead where those of the whole word lead from the root, whatever the word numbers are
-abbrev pub SameWalk : List ℕ → List ℕ → List ℕ → ParentRef → Option (List ℕ) → Option (List ℕ) → Type 0
-SameWalk rootChildren keys children p chars whole =
-    (rootWords words : List ℤ) → walkFrom (trieOf rootChildren rootWords keys children words) p chars
-    ≡ walkFrom (trieOf rootChildren rootWords keys children words) Root whole
-
-module _ (rootChildren keys children : List ℕ) (p : ParentRef) (s : List ℕ) (at : ℕ) (whole : Option (List ℕ))
-    (same : SameWalk rootChildren keys children p (charsFrom s at) whole) where
-  -- where the word's steps lead
-  abbrev Leads : Step → Type 0
-  Leads r = (rootWords words : List ℤ) → r ≡ walkFrom (trieOf rootChildren rootWords keys children words) Root whole
-
-  pub walk-end : length s ≤ at → Leads (At p)
+module _ (t : CharTrie) (p : ParentRef) (s : List ℕ) (at : ℕ) (r : Step) (same : walkFrom t p (charsFrom s at) ≡ r) where
+  pub walk-end : length s ≤ at → At p ≡ r
   unfolding walkFrom walk
-  walk-end h rootWords words = rw (from-end s at h) at (same rootWords words)
+  walk-end h = rw (from-end s at h) at same
 
-  module _ (ch w u : ℕ) (read : characterAt s at ≡ Char ch w u) (r : Step)
-      (step : (rootWords words : List ℤ) → r ≡ testedStep (trieOf rootChildren rootWords keys children words) p ch) where
-    pub walk-next : (q : ParentRef) → r ≡ At q → SameWalk rootChildren keys children q (charsFrom s (at + w)) whole
-    walk-next q e rootWords words = walk-char _ p ch q (charsFrom s (at + w)) (sym (step rootWords words) ∙ e)
-        ∙ rw (from-char s at ch w u read) at (same rootWords words)
+  module _ (ch w u : ℕ) (read : characterAt s at ≡ Char ch w u) (x : Step) (step : x ≡ testedStep t p ch) where
+    at-char : walkFrom t p (before ch (charsFrom s (at + w))) ≡ r
+    at-char = rw (from-char s at ch w u read) at same
 
-    pub walk-nothing : r ≡ Nothing → Leads Nothing
-    walk-nothing e rootWords words = walk-stops _ p ch (charsFrom s (at + w)) (sym (step rootWords words) ∙ e)
-        ∙ rw (from-char s at ch w u read) at (same rootWords words)
+    pub walk-next : (q : ParentRef) → x ≡ At q → walkFrom t q (charsFrom s (at + w)) ≡ r
+    walk-next q e = walk-char t p ch q (charsFrom s (at + w)) (sym step ∙ e) ∙ at-char
 
-    pub walk-damaged : IsSome (charsFrom s at) → r ≡ Damaged → Leads Damaged
-    walk-damaged some-chars e rootWords words =
-        walk-breaks _ p ch (charsFrom s (at + w)) (still-chars s at some-chars ch w u read) (sym (step rootWords words) ∙ e)
-        ∙ rw (from-char s at ch w u read) at (same rootWords words)
+    pub walk-nothing : x ≡ Nothing → Nothing ≡ r
+    walk-nothing e = walk-stops t p ch (charsFrom s (at + w)) (sym step ∙ e) ∙ at-char
+
+    pub walk-damaged : IsSome (charsFrom s at) → x ≡ Damaged → Damaged ≡ r
+    walk-damaged some-chars e = walk-breaks t p ch (charsFrom s (at + w)) (still-chars s at some-chars ch w u read) (sym step ∙ e) ∙ at-char
 
 -- ---- what a lookup finds, by where its steps lead and by the word number there
 
@@ -91,22 +77,17 @@ module _ (used : ℕ) (t : CharTrie) where
   got-damaged none e = let z : _≡_ {A = ℕ} 0 1 = cc in absurd (omega arith)
   got-damaged (some cs) e = rw (e, getOf)
 
--- as the code knows them: the walk does not read the word numbers, and the reading of a word number reads nothing else
-module _ (used : ℕ) (rootChildren : List ℕ) (rootWords : List ℤ) (keys children : List ℕ) (words : List ℤ) (chars : Option (List ℕ)) (r : Step)
-    (walked : (rootWords′ words′ : List ℤ) → r ≡ walkFrom (trieOf rootChildren rootWords′ keys children words′) Root chars) where
-  abbrev t : CharTrie
-  t = trieOf rootChildren rootWords keys children words
-
+-- as the code knows them
+module _ (used : ℕ) (t : CharTrie) (chars : Option (List ℕ)) (r : Step) (walked : r ≡ walkFrom t Root chars) where
   pub get-nothing : r ≡ Nothing → Absent ≡ gotOf used t chars
-  get-nothing e = got-nothing used t chars (sym (walked rootWords words) ∙ e)
+  get-nothing e = got-nothing used t chars (sym walked ∙ e)
 
   pub get-damaged : r ≡ Damaged → Got.Damaged ≡ gotOf used t chars
-  get-damaged e = got-damaged used t chars (sym (walked rootWords words) ∙ e)
+  get-damaged e = got-damaged used t chars (sym walked ∙ e)
 
-  module _ (p : ParentRef) (at : r ≡ At p) (number : WordNumber)
-      (read : (rootChildren′ keys′ children′ : List ℕ) → number ≡ wordAt used (trieOf rootChildren′ rootWords keys′ children′ words) p) where
+  module _ (p : ParentRef) (at : r ≡ At p) (number : WordNumber) (read : number ≡ wordAt used t p) where
     by-number : gotByWord number ≡ gotOf used t chars
-    by-number = ap gotByWord (read rootChildren keys children) ∙ got-at used t chars p (sym (walked rootWords words) ∙ at)
+    by-number = ap gotByWord read ∙ got-at used t chars p (sym walked ∙ at)
 
     pub get-no-word : number ≡ NoWord → Absent ≡ gotOf used t chars
     get-no-word e = ap gotByWord (sym e) ∙ by-number
@@ -118,16 +99,8 @@ module _ (used : ℕ) (rootChildren : List ℕ) (rootWords : List ℤ) (keys chi
     get-bad e = ap gotByWord (sym e) ∙ by-number
 
 -- the place whose word number a lookup reads is one of the tables
-walk-leads : (t : CharTrie) → SlotCount (length (t .keys)) → (chars : Option (List ℕ)) (p : ParentRef) → walkFrom t Root chars ≡ At p
-    → Inside (length (t .rootChildren)) (length (t .keys)) p
+pub reads-inside : (roots slots : List ℕ) (shift : ℕ) → SlotTable (length slots) shift → (chars : Option (List ℕ)) (r : Step) (p : ParentRef)
+    → r ≡ walkFrom (trieOf roots slots) Root chars → r ≡ At p → Inside (length roots) (length slots / 2) p
 unfolding walkFrom
-walk-leads t allowed none p e = let z : _≡_ {A = ℕ} 0 1 = cc in absurd (omega arith)
-walk-leads t allowed (some cs) p e = walks-inside t p cs allowed e
-
-pub reads-inside : (rootChildren : List ℕ) (rootWords : List ℤ) (keys children : List ℕ) (words : List ℤ) (chars : Option (List ℕ)) (r : Step) (p : ParentRef)
-    → EquallyLong rootChildren rootWords keys children words → SlotCount (length keys)
-    → ((rootWords′ words′ : List ℤ) → r ≡ walkFrom (trieOf rootChildren rootWords′ keys children words′) Root chars) → r ≡ At p
-    → Inside (length rootWords) (length words) p
-reads-inside rootChildren rootWords keys children words chars r p long allowed walked at =
-    word-inside rootChildren rootWords keys children words p long
-    (walk-leads (trieOf rootChildren rootWords keys children words) allowed chars p (sym (walked rootWords words) ∙ at))
+reads-inside roots slots shift table none r p walked at = let z : _≡_ {A = ℕ} 0 1 = cc in absurd (omega arith)
+reads-inside roots slots shift table (some cs) r p walked at = leads-walk roots slots shift table p cs (sym walked ∙ at)

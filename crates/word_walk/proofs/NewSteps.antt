@@ -6,7 +6,6 @@ use mathlib.Core.Bool.{Bool, true, false}
 use mathlib.Core.List.{List, [], _∷_}
 use mathlib.Core.Option.{Option, none, some}
 use native.Mathlib.Omega.{arith}
-use lib.IntN.{ℤ}
 use lib.ListN.{length}
 use Rattle.trie.specs.declared.ParentRef.{ParentRef}
 use Rattle.trie.specs.Trie.{CharTrie, fromRoot, newSlots, trieOf}
@@ -50,11 +49,11 @@ module _ (t : CharTrie) (p : ParentRef) (ch n : ℕ) where
   unserved (c ∷ cs) begins long root = rw (begins, root) (ap₂ Partly (sym long) (sym long))
 
 -- as the code tells them apart
-module _ (rootChildren : List ℕ) (place : ParentRef) (ch : ℕ) (chars : Option (List ℕ)) (begins : BeginsWith ch chars) (x : CharCount)
-    (counted : x ≡ countOf chars) (n : ℕ) (is-count : x ≡ Chars n) (rootWords words : List ℤ) (keys children cs : List ℕ) (all : chars ≡ some cs)
+module _ (roots : List ℕ) (place : ParentRef) (ch : ℕ) (chars : Option (List ℕ)) (begins : BeginsWith ch chars) (x : CharCount)
+    (counted : x ≡ countOf chars) (n : ℕ) (is-count : x ≡ Chars n) (slots cs : List ℕ) (all : chars ≡ some cs)
   where
     abbrev t : CharTrie
-    t = trieOf rootChildren rootWords keys children words
+    t = trieOf roots slots
 
     first : BeginsWith ch (some cs)
     first = rw all at begins
@@ -62,10 +61,9 @@ module _ (rootChildren : List ℕ) (place : ParentRef) (ch : ℕ) (chars : Optio
     long : length cs ≡ n
     long = let counts : Chars (length cs) ≡ Chars n = sym (rw all at counted) ∙ is-count in cc
 
-    module _ (b : Bool)
-        (tested : (rootWords′ words′ : List ℤ) (keys′ children′ : List ℕ) → b ≡ fromRoot (trieOf rootChildren rootWords′ keys′ children′ words′) place ch) where
+    module _ (b : Bool) (tested : (slots′ : List ℕ) → b ≡ fromRoot (trieOf roots slots′) place ch) where
       pub new-from-root : b ≡ true → Partly (n - 1) n ≡ newSteps t place cs
-      new-from-root root = served t place ch n cs first long (sym (tested rootWords words keys children) ∙ root)
+      new-from-root root = served t place ch n cs first long (sym (tested slots) ∙ root)
 
       pub new-below : b ≡ false → Partly n n ≡ newSteps t place cs
-      new-below root = unserved t place ch n cs first long (sym (tested rootWords words keys children) ∙ root)
+      new-below root = unserved t place ch n cs first long (sym (tested slots) ∙ root)

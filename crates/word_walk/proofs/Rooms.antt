@@ -5,7 +5,6 @@ use Prim.Native.Nat.{ℕ, _+_, _-_, _≤_}
 use mathlib.Core.Path.{_≡_, refl, sym, ap, _∙_}
 use mathlib.Core.List.{List, _∷_}
 use mathlib.Core.Option.{Option, none, some, IsSome}
-use lib.IntN.{ℤ}
 use lib.ListN.{length, take, drop}
 use Rattle.trie.specs.declared.ParentRef.{ParentRef}
 use Rattle.trie.specs.declared.Step.{Step}
@@ -40,33 +39,29 @@ module _ (used : ℕ) (t : CharTrie) (p : ParentRef) (ch : ℕ) where
   room-breaks none e = refl
   room-breaks (some cs) e = rw (e, reach)
 
-module _ (used : ℕ) (rootChildren : List ℕ) (rootWords : List ℤ) (keys children : List ℕ) (words : List ℤ) (p : ParentRef) (s : List ℕ) (at : ℕ)
-    (found : Room) where
+module _ (used : ℕ) (roots slots : List ℕ) (p : ParentRef) (s : List ℕ) (at : ℕ) (found : Room) where
   abbrev tables : CharTrie
-  tables = trieOf rootChildren rootWords keys children words
+  tables = trieOf roots slots
 
   module _ (same : roomFrom used tables p (charsFrom s at) ≡ found) where
-    pub room-whole : (number : WordNumber) → ((rootChildren′ keys′ children′ : List ℕ)
-        → number ≡ wordAt used (trieOf rootChildren′ rootWords keys′ children′ words) p) → length s ≤ at → Whole number ≡ found
+    pub room-whole : (number : WordNumber) → number ≡ wordAt used tables p → length s ≤ at → Whole number ≡ found
     unfolding roomFrom roomAt reach
-    room-whole number read h = ap Whole (read rootChildren keys children) ∙ rw (from-end s at h) at same
+    room-whole number read h = ap Whole read ∙ rw (from-end s at h) at same
 
-    module _ (ch w u : ℕ) (read : characterAt s at ≡ Char ch w u) (r : Step)
-        (step : (rootWords′ words′ : List ℤ) → r ≡ openStep (trieOf rootChildren rootWords′ keys children words′) p ch) where
+    module _ (ch w u : ℕ) (read : characterAt s at ≡ Char ch w u) (r : Step) (step : r ≡ openStep tables p ch) where
       at-char : roomFrom used tables p (before ch (charsFrom s (at + w))) ≡ found
       at-char = rw (from-char s at ch w u read) at same
 
       pub room-next : (q : ParentRef) → r ≡ At q → roomFrom used tables q (charsFrom s (at + w)) ≡ found
-      room-next q e = room-char used tables p ch q (charsFrom s (at + w)) (sym (step rootWords words) ∙ e) ∙ at-char
+      room-next q e = room-char used tables p ch q (charsFrom s (at + w)) (sym step ∙ e) ∙ at-char
 
       pub room-damaged : r ≡ Damaged → Room.Damaged ≡ found
-      room-damaged e = room-breaks used tables p ch (charsFrom s (at + w)) (sym (step rootWords words) ∙ e) ∙ at-char
+      room-damaged e = room-breaks used tables p ch (charsFrom s (at + w)) (sym step ∙ e) ∙ at-char
 
       pub room-missing : IsSome (charsFrom s at) → r ≡ Nothing → (x : Room)
-          → ((rootWords′ words′ : List ℤ) (keys′ children′ cs : List ℕ) → charsOf (take (length s - at) (drop at s)) ≡ some cs
-          → x ≡ newSteps (trieOf rootChildren rootWords′ keys′ children′ words′) p cs)
+          → ((slots′ cs : List ℕ) → charsOf (take (length s - at) (drop at s)) ≡ some cs → x ≡ newSteps (trieOf roots slots′) p cs)
           → x ≡ found
       room-missing some-chars e x new =
           let all = part-chars s at ∙ from-char s at ch w u read in
           room-stops used tables p ch (charsFrom s (at + w)) x (still-chars s at some-chars ch w u read)
-          (λ cs chars. new rootWords words keys children cs (all ∙ chars)) (sym (step rootWords words) ∙ e) ∙ at-char
+          (λ cs chars. new slots cs (all ∙ chars)) (sym step ∙ e) ∙ at-char

@@ -5,14 +5,13 @@
 ghost use mathlib.Core.Path.{_≡_};
 ghost use mathlib.Core.List.{List};
 ghost use mathlib.Core.Option.{IsSome, some};
-ghost use lib.IntN.{ℤ};
 ghost use lib.ListN.{length};
-ghost use Prim.Native.Nat.{ℕ, _-_};
-ghost use Rattle.trie.specs.Trie.{log2, SlotCount, trieOf};
+ghost use Prim.Native.Nat.{ℕ};
+ghost use Rattle.trie.specs.Trie.{SlotTable, trieOf};
 ghost use Rattle.trie.specs.declared.ParentRef.the-variants.{Root};
 ghost use Rattle.trie.specs.Lent.{was, trieLent};
 ghost use Rattle.utf8.specs.Text.{charsOf};
-ghost use Rattle.walk.specs.Walk.{EquallyLong, BeginsWith, walkFrom, gotOf, newSteps, roomOf};
+ghost use Rattle.walk.specs.Walk.{BeginsWith, walkFrom, gotOf, newSteps, roomOf};
 use trie::Got;
 use trie::ParentRef;
 use trie::Step;
@@ -21,18 +20,16 @@ use utf8::CharCount;
 use walk::Room;
 
 // Where a lookup's steps along the word s lead.
-fn walk(root_children: &[u32], keys: &[u64], children: &[u32], shift: u32, s: &[u8]) -> Step
-    requires { ⌜ (length (now children) ≡ length (now keys)) × SlotCount (length (now keys)) ⌝ }
-    requires { ⌜ shift ≡ 64 - log2 (length (now keys)) ⌝ }
+fn walk(roots: &[u64], slots: &[u64], shift: u32, s: &[u8]) -> Step
+    requires { ⌜ SlotTable (length (now slots)) shift ⌝ }
     requires { ⌜ IsSome (charsOf (now s)) ⌝ }
-    ensures { λ r. ⌜ ((rootWords words : List ℤ)
-        → r ≡ walkFrom (trieOf (was «root_children») rootWords (was keys) (was children) words) Root (charsOf (was s))) ⌝ }
+    ensures { λ r. ⌜ r ≡ walkFrom (trieLent roots slots) Root (charsOf (was s)) ⌝ }
 {
     let mut at: usize = 0;
     let mut place = ParentRef::Root;
     while at < s.len() {
         let next = utf8::next_char(s, at);
-        match walk::tested_step(root_children, keys, children, shift, place, next.value) {
+        match walk::tested_step(roots, slots, shift, place, next.value) {
             Step::At(child) => {
                 place = child;
                 at += next.width;
@@ -49,24 +46,13 @@ fn walk(root_children: &[u32], keys: &[u64], children: &[u32], shift: u32, s: &[
 }
 
 // The record of the word s, if it is in the dictionary. Only the last place's word number is read.
-pub fn get(
-    root_children: &[u32],
-    root_words: &[i32],
-    keys: &[u64],
-    children: &[u32],
-    words: &[i32],
-    shift: u32,
-    used: usize,
-    s: &[u8],
-) -> Got
-    requires { ⌜ EquallyLong (now «root_children») (now «root_words») (now keys) (now children) (now words) ⌝ }
-    requires { ⌜ SlotCount (length (now keys)) ⌝ }
-    requires { ⌜ shift ≡ 64 - log2 (length (now keys)) ⌝ }
+pub fn get(roots: &[u64], slots: &[u64], shift: u32, used: usize, s: &[u8]) -> Got
+    requires { ⌜ SlotTable (length (now slots)) shift ⌝ }
     requires { ⌜ IsSome (charsOf (now s)) ⌝ }
-    ensures { λ r. ⌜ r ≡ gotOf used (trieLent «root_children» «root_words» keys children words) (charsOf (was s)) ⌝ }
+    ensures { λ r. ⌜ r ≡ gotOf used (trieLent roots slots) (charsOf (was s)) ⌝ }
 {
-    match walk(root_children, keys, children, shift, s) {
-        Step::At(place) => match walk::word_at(root_words, words, used, place) {
+    match walk(roots, slots, shift, s) {
+        Step::At(place) => match walk::word_at(roots, slots, used, place) {
             WordNumber::NoWord => Got::Absent,
             WordNumber::Record(n) => Got::Held(n),
             WordNumber::Bad => Got::Damaged,
@@ -78,15 +64,14 @@ pub fn get(
 
 // What new steps take for all characters of s, of which ch is the first, from a place that is there: a node each, and a slot
 // each but for a first character that the root table serves.
-fn new_steps(root_children: &[u32], place: ParentRef, ch: u32, s: &[u8]) -> Room
+fn new_steps(roots: &[u64], place: ParentRef, ch: u32, s: &[u8]) -> Room
     requires { ⌜ BeginsWith ch (charsOf (now s)) ⌝ }
-    ensures { λ r. ⌜ ((rootWords words : List ℤ) (keys children cs : List ℕ) → charsOf (was s) ≡ some cs
-        → r ≡ newSteps (trieOf (was «root_children») rootWords keys children words) place cs) ⌝ }
+    ensures { λ r. ⌜ ((slots cs : List ℕ) → charsOf (was s) ≡ some cs → r ≡ newSteps (trieOf (was roots) slots) place cs) ⌝ }
 {
     let CharCount::Chars(nodes) = utf8::char_count(s) else {
         return Room::Damaged;
     };
-    if walk::from_root(root_children, place, ch) {
+    if walk::from_root(roots, place, ch) {
         let slots = nodes - 1;
         return Room::Partly(slots, nodes);
     }
@@ -94,38 +79,27 @@ fn new_steps(root_children: &[u32], place: ParentRef, ch: u32, s: &[u8]) -> Room
 }
 
 // What the word s finds when it is new to the lookup: the insertion's walk, which tests no bits and writes nothing.
-pub fn room_for(
-    root_children: &[u32],
-    root_words: &[i32],
-    keys: &[u64],
-    children: &[u32],
-    words: &[i32],
-    shift: u32,
-    used: usize,
-    s: &[u8],
-) -> Room
-    requires { ⌜ EquallyLong (now «root_children») (now «root_words») (now keys) (now children) (now words) ⌝ }
-    requires { ⌜ SlotCount (length (now keys)) ⌝ }
-    requires { ⌜ shift ≡ 64 - log2 (length (now keys)) ⌝ }
+pub fn room_for(roots: &[u64], slots: &[u64], shift: u32, used: usize, s: &[u8]) -> Room
+    requires { ⌜ SlotTable (length (now slots)) shift ⌝ }
     requires { ⌜ IsSome (charsOf (now s)) ⌝ }
-    ensures { λ r. ⌜ r ≡ roomOf used (trieLent «root_children» «root_words» keys children words) (charsOf (was s)) ⌝ }
+    ensures { λ r. ⌜ r ≡ roomOf used (trieLent roots slots) (charsOf (was s)) ⌝ }
 {
     let mut at: usize = 0;
     let mut place = ParentRef::Root;
     while at < s.len() {
         let next = utf8::next_char(s, at);
-        match walk::open_step(root_children, keys, children, shift, place, next.value) {
+        match walk::open_step(roots, slots, shift, place, next.value) {
             Step::At(child) => {
                 place = child;
                 at += next.width;
             }
             Step::Nothing => {
-                return new_steps(root_children, place, next.value, &s[at..]);
+                return new_steps(roots, place, next.value, &s[at..]);
             }
             Step::Damaged => {
                 return Room::Damaged;
             }
         }
     }
-    Room::Whole(walk::word_at(root_words, words, used, place))
+    Room::Whole(walk::word_at(roots, slots, used, place))
 }

@@ -8,7 +8,6 @@ use mathlib.Core.List.{List, [], _∷_}
 use mathlib.Core.Bool.{true, false, cond}
 use mathlib.Core.Path.{_≡_, refl, sym, ap, _∙_}
 use native.Mathlib.Omega.{arith}
-use lib.IntN.{ℤ}
 use lib.ListN.{length, getD, take, drop}
 use lib.Seq.{length-take-le}
 use Rattle.trie.specs.declared.ParentRef.{ParentRef}
@@ -17,7 +16,7 @@ use Rattle.trie.specs.declared.Step.{Step}
 use Rattle.trie.specs.declared.Step.the-variants.{At, Nothing, Damaged}
 use Rattle.trie.specs.declared.WordNumber.{WordNumber}
 use Rattle.trie.specs.declared.WordNumber.the-variants.{NoWord, Record, Bad}
-use Rattle.trie.specs.Trie.{SlotCount, testedStep, wordAt, trieOf}
+use Rattle.trie.specs.Trie.{SlotTable, testedStep, wordAt, trieOf}
 use Rattle.book.specs.declared.Outcome.the-variants.{Done}
 use Rattle.book.specs.declared.Outcome.the-variants as Outcome
 use Rattle.book.specs.Returns.{Book, isDone}
@@ -61,25 +60,25 @@ ComesTo chars offsets n at base tokens₀ count₀ tokens count b w =
     ≡ putWalk site (take n chars) at (written count₀ tokens₀) (wordsFrom b at (drop at (take n chars)))
 
 -- where it stands: at a place, before a character, with so many tokens written
-pub record Walking (rootChildren : List ℕ) (rootWords : List ℤ) (keys children : List ℕ) (words : List ℤ) (used : ℕ) (chars offsets : List ℕ)
+pub record Walking (roots slots : List ℕ) (used : ℕ) (chars offsets : List ℕ)
     (n at base : ℕ) (tokens₀ : List ℕ) (count₀ : ℕ) (tokens : List ℕ) (count : ℕ) (place : ParentRef) (next : ℕ) : Type 0 where
-  pub walk : Walk (ComesTo chars offsets n at base tokens₀ count₀ tokens count) rootChildren rootWords keys children words used chars n at place next
+  pub walk : Walk (ComesTo chars offsets n at base tokens₀ count₀ tokens count) roots slots used chars n at place next
   pub long : length tokens ≡ length tokens₀
 
 -- at the root, before the first character
-pub begins : (rootChildren : List ℕ) (rootWords : List ℤ) (keys children : List ℕ) (words : List ℤ) (used : ℕ) (chars offsets : List ℕ)
+pub begins : (roots slots : List ℕ) (used : ℕ) (chars offsets : List ℕ)
     (n at base : ℕ) (tokens : List ℕ) (count : ℕ)
     → at < n
-    → Walking rootChildren rootWords keys children words used chars offsets n at base tokens count tokens count Root at
-begins rootChildren rootWords keys children words used chars offsets n at base tokens count more =
+    → Walking roots slots used chars offsets n at base tokens count tokens count Root at
+begins roots slots used chars offsets n at base tokens count more =
     record { walk = at-root more (λ b seen site known. refl); long = refl }
 
-module _ {rootChildren : List ℕ} {rootWords : List ℤ} {keys children : List ℕ} {words : List ℤ} {used : ℕ} {chars offsets : List ℕ}
+module _ {roots slots : List ℕ} {used : ℕ} {chars offsets : List ℕ}
     {n at base : ℕ} {tokens₀ : List ℕ} {count₀ : ℕ} {tokens : List ℕ} {count : ℕ} {place : ParentRef} {next : ℕ}
-    (here : Walking rootChildren rootWords keys children words used chars offsets n at base tokens₀ count₀ tokens count place next)
+    (here : Walking roots slots used chars offsets n at base tokens₀ count₀ tokens count place next)
     (long : n ≤ length chars) where
   abbrev Seen : Book → Type 0
-  Seen b = SeenAs b (trieOf rootChildren rootWords keys children words) used
+  Seen b = SeenAs b (trieOf roots slots) used
 
   -- the block's characters
   abbrev cs : List ℕ
@@ -104,7 +103,7 @@ module _ {rootChildren : List ℕ} {rootWords : List ℤ} {keys children : List 
 
   -- there is a character, and its step is taken
   module _ {r : Step} (more : next < n)
-      (step : (rootWords′ words′ : List ℤ) → r ≡ testedStep (trieOf rootChildren rootWords′ keys children words′) place (getD chars next 0)) where
+      (step : r ≡ testedStep (trieOf roots slots) place (getD chars next 0)) where
     -- no step leads on
     pub ends-nothing : r ≡ Nothing → Ensured (answer Done (written count tokens))
     ends-nothing e = by-end (at-nothing (here .walk) long more step e)
@@ -115,15 +114,15 @@ module _ {rootChildren : List ℕ} {rootWords : List ℤ} {keys children : List 
 
     -- the step leads to a place, and the word number there is read
     module _ {q : ParentRef} (stepped : r ≡ At q) {number : WordNumber}
-        (read : (rootChildren′ keys′ children′ : List ℕ) → number ≡ wordAt used (trieOf rootChildren′ rootWords keys′ children′ words) q) where
+        (read : number ≡ wordAt used (trieOf roots slots) q) where
       -- a bad word number
       pub ends-bad : number ≡ Bad → Ensured (answer Outcome.Damaged (written count tokens))
       ends-bad e = by-damage (at-bad (here .walk) long more step stepped read e)
 
       -- no word ends there
-      pub goes-past : SlotCount (length keys)
+      pub goes-past : {shift : ℕ} → SlotTable (length slots) shift
           → number ≡ NoWord
-          → Walking rootChildren rootWords keys children words used chars offsets n at base tokens₀ count₀ tokens count q (next + 1)
+          → Walking roots slots used chars offsets n at base tokens₀ count₀ tokens count q (next + 1)
       goes-past allowed e = record { walk = past (here .walk) long more step stepped read allowed e; long = here .long }
 
       -- a word ends there, and `emit_span` answers its token with `put`
@@ -150,10 +149,10 @@ module _ {rootChildren : List ℕ} {rootWords : List ℤ} {keys children : List 
             sym (stops (cutAnswer put after) (λ v. putWalk site cs at v (onward b)) other) ∙ with-rest b site seen known
 
         -- the token is written
-        pub goes-behind : SlotCount (length keys)
+        pub goes-behind : {shift : ℕ} → SlotTable (length slots) shift
             → isDone (put .outcome) ≡ true
             → length after ≡ length tokens
-            → Walking rootChildren rootWords keys children words used chars offsets n at base tokens₀ count₀ after (put .count) q (next + 1)
+            → Walking roots slots used chars offsets n at base tokens₀ count₀ after (put .count) q (next + 1)
         goes-behind allowed done kept =
             record {
               walk =

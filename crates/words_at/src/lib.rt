@@ -3,11 +3,10 @@
 //! As in the Rust, the walk through the trie visits the words in the order of the output, so that they are written as it meets
 //! them, and no edge is kept.
 ghost use mathlib.Core.Path.{_≡_};
-ghost use Prim.Native.Nat.{_+_, _-_, _≤_, _<_};
+ghost use Prim.Native.Nat.{_+_, _≤_, _<_};
 ghost use lib.ListN.{length, take, drop};
-ghost use Rattle.trie.specs.Trie.{SlotCount, log2};
+ghost use Rattle.trie.specs.Trie.{SlotTable};
 ghost use Rattle.trie.specs.Lent.{was, became, trieLent};
-ghost use Rattle.walk.specs.Walk.{EquallyLong};
 ghost use Rattle.book.specs.Returns.{Book, longestText};
 ghost use Rattle.book.specs.Prefixes.{wordsFrom};
 ghost use Rattle.cuts.specs.Slices.{SeenAs, Characters, Placed};
@@ -22,11 +21,8 @@ use trie::WordNumber;
 
 // Writes the words that start at a position of a block of n characters, as the walk meets them.
 pub fn words_at(
-    root_children: &[u32],
-    root_words: &[i32],
-    keys: &[u64],
-    children: &[u32],
-    words: &[i32],
+    roots: &[u64],
+    slots: &[u64],
     shift: u32,
     used: usize,
     chars: &[u32],
@@ -37,10 +33,9 @@ pub fn words_at(
     tokens: &mut [u32],
     count: usize,
 ) -> Cut
-    requires { ⌜ EquallyLong (now «root_children») (now «root_words») (now keys) (now children) (now words) ⌝ }
-    requires { ⌜ SlotCount (length (now keys)) × (shift ≡ 64 - log2 (length (now keys))) ⌝ }
+    requires { ⌜ SlotTable (length (now slots)) shift ⌝ }
     requires { ⌜ (at < n) × (n ≤ length (now chars)) × (n < length (now offsets)) × Characters n (now chars) × (base + n ≤ longestText) ⌝ }
-    ensures { λ r. ⌜ ((b : Book) (place : Base) → SeenAs b (trieLent «root_children» «root_words» keys children words) used
+    ensures { λ r. ⌜ ((b : Book) (place : Base) → SeenAs b (trieLent roots slots) used
         → Placed place base (take n (was chars)) (was offsets)
         → cutAnswer r (became tokens) ≡ putWalk place (take n (was chars)) at (written count (was tokens)) (wordsFrom b at (drop at (take n (was chars))))) ⌝ }
 {
@@ -48,7 +43,7 @@ pub fn words_at(
     let mut place = ParentRef::Root;
     let mut next = at;
     while next < n {
-        match walk::tested_step(root_children, keys, children, shift, place, chars[next]) {
+        match walk::tested_step(roots, slots, shift, place, chars[next]) {
             Step::At(child) => {
                 place = child;
                 next += 1;
@@ -66,7 +61,7 @@ pub fn words_at(
                 };
             }
         }
-        match walk::word_at(root_words, words, used, place) {
+        match walk::word_at(roots, slots, used, place) {
             WordNumber::NoWord => {}
             WordNumber::Record(_) => {
                 let put = tokens::emit_span(offsets, base, at, next, tokens, count);

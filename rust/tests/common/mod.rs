@@ -24,6 +24,30 @@ pub fn changed(dictionary: &Dictionary, change: impl FnOnce(&mut Areas)) -> Dict
     Dictionary::from_areas(areas)
 }
 
+/// Where a slot has its key, and behind it its link.
+pub fn key_at(slot: usize) -> usize {
+    2 * slot
+}
+
+pub fn link_at(slot: usize) -> usize {
+    2 * slot + 1
+}
+
+/// The slot whose key and link are such.
+pub fn slot_where(areas: &Areas, test: impl Fn(u64, u64) -> bool) -> usize {
+    areas.slots.chunks_exact(2).position(|slot| test(slot[0], slot[1])).unwrap()
+}
+
+/// The upper half of a link or a record.
+pub fn upper(number: u64) -> u64 {
+    number >> 32
+}
+
+/// A link or a record with this upper half: in a link a word's number plus one, and 0 where there is no word.
+pub fn with_upper(number: u64, half: u32) -> u64 {
+    number & 0xffff_ffff | u64::from(half) << 32
+}
+
 /// A scratch in which no place holds 0, so that a place that is written shows.
 pub fn scratch(work: usize, edges: usize, tokens: usize) -> Scratch {
     let mut scratch = Scratch::with_sizes(work, edges, tokens);
@@ -32,7 +56,7 @@ pub fn scratch(work: usize, edges: usize, tokens: usize) -> Scratch {
     scratch.starts.fill(903);
     scratch.scores.fill(904.5);
     scratch.ends.fill(905);
-    scratch.records.fill(906);
+    scratch.route_records.fill(906);
     scratch.edge_ends.fill(907);
     scratch.edge_records.fill(908);
     scratch.tokens.fill(909);

@@ -57,7 +57,7 @@ returns-4 : tie.Need-returns-4
 returns-4 c =
     let put = c .before .before in
     let matched = put .before .before in
-    let start = matched .before .before .before .before .before .before .before .before in (
+    let start = matched .before .before .before .before .before .before .before in (
       no-frame-answered _ _ _ _ _ _ _ (is-no-frame _ (matched .match .keys4) (start .pre .1)) (put .put-no-frame .ensures .0),
       omega (arith, put .put-no-frame .ensures .1),
     )

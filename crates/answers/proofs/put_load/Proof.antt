@@ -19,8 +19,7 @@ put-answer-requires c κs = search needs
 
 -- where the call has returned, which says how long the areas are
 abbrev after-load-dict : tie.After-head → tie.After-load-dict
-after-load-dict c =
-    c .before .before .before .before .before .before .before .before .before .before .before .before .before .before .before .before .before .before .before
+after-load-dict c = c .before .before .before .before .before .before .before .before .before .before .before .before .before .before .before
 
 abbrev after-put-answer : tie.After-head → tie.After-put-answer
 after-put-answer c = c .before .before .before
@@ -38,22 +37,13 @@ same-length-4 : tie.Need-same-length-4
 same-length-4 c = after-load-dict c .load-dict .kept .1 .1 .1 .1 .0
 
 same-length-5 : tie.Need-same-length-5
-same-length-5 c = after-load-dict c .load-dict .kept .1 .1 .1 .1 .1 .0
-
-same-length-6 : tie.Need-same-length-6
-same-length-6 c = after-load-dict c .load-dict .kept .1 .1 .1 .1 .1 .1 .0
-
-same-length-7 : tie.Need-same-length-7
-same-length-7 c = after-load-dict c .load-dict .kept .1 .1 .1 .1 .1 .1 .1 .0
-
-same-length-8 : tie.Need-same-length-8
-same-length-8 c = after-put-answer c .put-answer .kept .1 .1 .1 .0
+same-length-5 c = after-put-answer c .put-answer .kept .1 .1 .1 .0
 
 returns : tie.Need-returns
 returns c =
     let put = c .before .before .before in
     let number = put .before .before .before in
-    let load = number .before .before .before .before .before .before .before .before .before .before .before .before .before in (
+    let load = number .before .before .before .before .before .before .before .before .before in (
       load-put _ _ _ (load .load-dict .ensures .0) _ _ _ _ _ (number .number-of .ensures) (put .put-answer .ensures .0),
       omega (arith, put .put-answer .ensures .1),
     )
@@ -71,7 +61,4 @@ put-load-spec =
     same-length-3
     same-length-4
     same-length-5
-    same-length-6
-    same-length-7
-    same-length-8
     returns)

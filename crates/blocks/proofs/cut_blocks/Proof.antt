@@ -17,14 +17,14 @@ use Rattle.blocks.proofs.cut_blocks.Statement.{statement}
 use Rattle.blocks.proofs.cut_blocks.Tie as tie
 
 abbrev Inv-loop : tie.InvT-loop
-Inv-loop root-children root-words keys children words logarithms plan sentence chars₀ offsets₀ starts₀ scores₀ ends₀ records₀ edge-ends₀ edge-records₀
+Inv-loop roots slots logarithms plan sentence chars₀ offsets₀ starts₀ scores₀ ends₀ records₀ edge-ends₀ edge-records₀
     room tokens₀ at₀ units₀ base₀ count₀ chars offsets starts scores ends records edge-ends edge-records tokens at units base count =
     SameLong chars chars₀ offsets offsets₀ starts starts₀ scores scores₀ ends ends₀ records records₀ edge-ends edge-ends₀ edge-records edge-records₀
     tokens tokens₀
-    × Cutting (trieOf root-children root-words keys children words) logarithms plan room sentence tokens₀ tokens at units base count
+    × Cutting (trieOf roots slots) logarithms plan room sentence tokens₀ tokens at units base count
 
 abbrev μ-loop : tie.MeasureT-loop
-μ-loop root-children root-words keys children words logarithms plan sentence chars₀ offsets₀ starts₀ scores₀ ends₀ records₀ edge-ends₀ edge-records₀
+μ-loop roots slots logarithms plan sentence chars₀ offsets₀ starts₀ scores₀ ends₀ records₀ edge-ends₀ edge-records₀
     room tokens₀ at₀ units₀ base₀ count₀ chars offsets starts scores ends records edge-ends edge-records tokens at units base count =
     length sentence - at
 
@@ -32,7 +32,7 @@ start-requires : tie.Need-start-requires Inv-loop μ-loop
 start-requires c κs = search needs
 
 loop-holds : tie.Need-loop-holds Inv-loop μ-loop
-loop-holds c = let entry = c .before .before .before .before .before .before .before .before .before .before .before .before .before .before .before in (
+loop-holds c = let entry = c .before .before .before .before .before .before .before .before .before .before .before .before .before .before in (
   record {
     long-chars = refl;
     long-offsets = refl;
@@ -44,13 +44,13 @@ loop-holds c = let entry = c .before .before .before .before .before .before .be
     long-edge-records = refl;
     long-tokens = refl;
   },
-  begins _ _ _ _ _ _ _ (entry .pre .1 .1 .0 .0) (entry .pre .1 .1 .0 .1) (c .start .ensures),
+  begins _ _ _ _ _ _ _ (entry .pre .1 .0 .0) (entry .pre .1 .0 .1) (c .start .ensures),
 )
 
 -- ---- the places of the code that a turn passes: the loop's test, the run, and its cut
 
 abbrev lent : tie.At-loop Inv-loop μ-loop → tie.Start Inv-loop μ-loop
-lent c = c .before .before .before .before .before .before .before .before .before .before .before .before .before .before .before .before
+lent c = c .before .before .before .before .before .before .before .before .before .before .before .before .before .before .before
 
 abbrev test : tie.After-next-recording Inv-loop μ-loop → tie.At-loop Inv-loop μ-loop
 test c = c .before .before .before .before .before
@@ -74,9 +74,9 @@ has-next-requires c κs = search needs
 next-recording-requires : tie.Need-next-recording-requires Inv-loop μ-loop
 next-recording-requires c κs =
     let turn = c .before .before .before .before in
-    let work = lent turn .pre .1 .1 .1 .0 in
+    let work = lent turn .pre .1 .1 .0 in
     let l = turn .loop .inv in (
-      (before-end (c .before .before), lent turn .pre .1 .1 .0 .0, l .1 .well-formed, l .1 .few-units),
+      (before-end (c .before .before), lent turn .pre .1 .0 .0, l .1 .well-formed, l .1 .few-units),
       (omega (arith, l .0, l .1 .counted, work), omega (arith, l .0, l .1 .counted, work)),
     )
 
@@ -84,27 +84,24 @@ cut-block-requires : tie.Need-cut-block-requires Inv-loop μ-loop
 cut-block-requires c κs =
     let run = c .before .before .before .before .before .before .before .before .before .before .before .before .before in
     let pre = lent (test run) .pre in
-    let work = pre .1 .1 .1 .0 in
+    let work = pre .1 .1 .0 in
     let long = test run .loop .inv .0 in
     let within = run-within (test run .loop .inv .1) (run .next-recording .ensures) in (
       pre .0,
       (
-        pre .1 .0,
         (
-          (
-            record {
-              in-chars = omega (arith, within, work, long, run .next-recording .kept);
-              in-offsets = omega (arith, within, work, long, run .next-recording .kept);
-              in-starts = omega (arith, within, work, long);
-              in-scores = omega (arith, within, work, long);
-              in-ends = omega (arith, within, work, long);
-              in-records = omega (arith, within, work, long);
-            },
-            run .next-recording .ensures .characters,
-            run-in-text (test run .loop .inv .1) (run .next-recording .ensures),
-          ),
-          (omega (arith, long, pre .1 .1 .1 .1), omega (arith, long, pre .1 .1 .1 .1), of-kind (run .next-recording .ensures)),
+          record {
+            in-chars = omega (arith, within, work, long, run .next-recording .kept);
+            in-offsets = omega (arith, within, work, long, run .next-recording .kept);
+            in-starts = omega (arith, within, work, long);
+            in-scores = omega (arith, within, work, long);
+            in-ends = omega (arith, within, work, long);
+            in-records = omega (arith, within, work, long);
+          },
+          run .next-recording .ensures .characters,
+          run-in-text (test run .loop .inv .1) (run .next-recording .ensures),
         ),
+        (omega (arith, long, pre .1 .1 .1), omega (arith, long, pre .1 .1 .1), of-kind (run .next-recording .ensures)),
       ),
     )
 
@@ -126,43 +123,43 @@ same-length-2 c =
 same-length-3 : tie.Need-same-length-3 Inv-loop μ-loop
 same-length-3 c =
     let cut = cut-done (c .before) in
-    let areas = cut .cut-block .kept .1 .1 .1 .1 .1 .1 .1 .1 .1 .1 .1 in
+    let areas = cut .cut-block .kept .1 .1 .1 .1 .1 .1 .1 .1 in
     areas .0 ∙ test (recorded cut) .loop .inv .0 .long-starts
 
 same-length-4 : tie.Need-same-length-4 Inv-loop μ-loop
 same-length-4 c =
     let cut = cut-done (c .before) in
-    let areas = cut .cut-block .kept .1 .1 .1 .1 .1 .1 .1 .1 .1 .1 .1 in
+    let areas = cut .cut-block .kept .1 .1 .1 .1 .1 .1 .1 .1 in
     areas .1 .0 ∙ test (recorded cut) .loop .inv .0 .long-scores
 
 same-length-5 : tie.Need-same-length-5 Inv-loop μ-loop
 same-length-5 c =
     let cut = cut-done (c .before) in
-    let areas = cut .cut-block .kept .1 .1 .1 .1 .1 .1 .1 .1 .1 .1 .1 in
+    let areas = cut .cut-block .kept .1 .1 .1 .1 .1 .1 .1 .1 in
     areas .1 .1 .0 ∙ test (recorded cut) .loop .inv .0 .long-ends
 
 same-length-6 : tie.Need-same-length-6 Inv-loop μ-loop
 same-length-6 c =
     let cut = cut-done (c .before) in
-    let areas = cut .cut-block .kept .1 .1 .1 .1 .1 .1 .1 .1 .1 .1 .1 in
+    let areas = cut .cut-block .kept .1 .1 .1 .1 .1 .1 .1 .1 in
     areas .1 .1 .1 .0 ∙ test (recorded cut) .loop .inv .0 .long-records
 
 same-length-7 : tie.Need-same-length-7 Inv-loop μ-loop
 same-length-7 c =
     let cut = cut-done (c .before) in
-    let areas = cut .cut-block .kept .1 .1 .1 .1 .1 .1 .1 .1 .1 .1 .1 in
+    let areas = cut .cut-block .kept .1 .1 .1 .1 .1 .1 .1 .1 in
     areas .1 .1 .1 .1 .0 ∙ test (recorded cut) .loop .inv .0 .long-edge-ends
 
 same-length-8 : tie.Need-same-length-8 Inv-loop μ-loop
 same-length-8 c =
     let cut = cut-done (c .before) in
-    let areas = cut .cut-block .kept .1 .1 .1 .1 .1 .1 .1 .1 .1 .1 .1 in
+    let areas = cut .cut-block .kept .1 .1 .1 .1 .1 .1 .1 .1 in
     areas .1 .1 .1 .1 .1 .0 ∙ test (recorded cut) .loop .inv .0 .long-edge-records
 
 same-length-9 : tie.Need-same-length-9 Inv-loop μ-loop
 same-length-9 c =
     let cut = cut-done (c .before) in
-    let areas = cut .cut-block .kept .1 .1 .1 .1 .1 .1 .1 .1 .1 .1 .1 in
+    let areas = cut .cut-block .kept .1 .1 .1 .1 .1 .1 .1 .1 in
     areas .1 .1 .1 .1 .1 .1 .1 .0 ∙ test (recorded cut) .loop .inv .0 .long-tokens
 
 returns : tie.Need-returns Inv-loop μ-loop
@@ -194,7 +191,7 @@ loop-again c =
     let cut = cut-done (c .before .before .before) in
     let l = test (recorded cut) .loop .inv in
     let run = recorded cut .next-recording .kept in
-    let areas = cut .cut-block .kept .1 .1 .1 .1 .1 .1 .1 .1 .1 .1 .1 in (
+    let areas = cut .cut-block .kept .1 .1 .1 .1 .1 .1 .1 .1 in (
       record {
         long-chars = run .1 .1 .1 .1 .0 ∙ l .0 .long-chars;
         long-offsets = run .1 .1 .1 .1 .1 .0 ∙ l .0 .long-offsets;

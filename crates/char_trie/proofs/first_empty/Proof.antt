@@ -1,24 +1,23 @@
 -- `char_trie::first_empty` meets its contract. The loop's invariant: i is a slot, and the search of the slots left, from i on, ends as the
 -- whole search does. Each turn is a law of `Probes`. Assumes nothing.
 use mathlib.Core.Path.{_≡_}
-use Prim.Native.Nat.{_<_}
+use Prim.Native.Nat.{_/_, _<_}
 use native.Mathlib.Omega.{arith}
 use lib.ListN.{length}
 use borrow.Author.Needs.{needs}
-use Rattle.trie.specs.Trie.{emptyFrom, emptySlot}
-use Rattle.trie.proofs.Slots.{shift-below}
-use Rattle.trie.proofs.Probes.{start-below, empty-start, next-is-slot, empty-found, empty-on, empty-endless}
+use Rattle.trie.specs.Trie.{keysOf, emptyFrom, emptySlot}
+use Rattle.trie.proofs.Probes.{shift-fits, key-inside, start-below, empty-start, next-is-slot, empty-found, empty-on, empty-endless}
 use Rattle.char_trie.proofs.first_empty.Statement.{statement}
 use Rattle.char_trie.proofs.first_empty.Tie as tie
 
 abbrev Inv-loop : tie.InvT-loop
-Inv-loop keys shift key left₀ i₀ left i = (i < length keys) × (emptyFrom left keys i ≡ emptySlot keys key)
+Inv-loop slots shift key n left₀ i₀ left i = (i < length slots / 2) × (emptyFrom left (keysOf slots) i ≡ emptySlot (keysOf slots) key)
 
 abbrev μ-loop : tie.MeasureT-loop
-μ-loop keys shift key left₀ i₀ left i = left
+μ-loop slots shift key n left₀ i₀ left i = left
 
 index-requires : tie.Need-index-requires Inv-loop μ-loop
-index-requires c κs = search shift-below
+index-requires c κs = search shift-fits
 
 loop-holds : tie.Need-loop-holds Inv-loop μ-loop
 loop-holds c = search (start-below, empty-start)
@@ -26,8 +25,11 @@ loop-holds c = search (start-below, empty-start)
 mul-if1 : tie.Need-mul-if1 Inv-loop μ-loop
 mul-if1 c = search needs
 
+mul-if1-2 : tie.Need-mul-if1-2 Inv-loop μ-loop
+mul-if1-2 c = search (needs, key-inside)
+
 shared-slice-read-if1 : tie.Need-shared-slice-read-if1 Inv-loop μ-loop
-shared-slice-read-if1 c = search needs
+shared-slice-read-if1 c = search key-inside
 
 returns : tie.Need-returns Inv-loop μ-loop
 returns c = search empty-found
@@ -56,6 +58,7 @@ first-empty-spec =
     index-requires
     loop-holds
     mul-if1
+    mul-if1-2
     shared-slice-read-if1
     returns
     next-slot-requires

@@ -7,17 +7,16 @@ use mathlib.Core.Path.{_≡_, refl, sym, _∙_}
 use borrow.Author.Needs.{needs}
 use borrow.Author.Tests.{not-true, not-false}
 use Rattle.book.specs.Returns.{isDone}
-use Rattle.cut_all.proofs.Sentences.{Tests, tested, is-refused, slots, long, short, some-chars, room-chars, room-offsets, is-cut, has-begun-here}
+use Rattle.cut_all.proofs.Sentences.{Tests, tested, is-refused, slot-count, table, short, some-chars, room-chars, room-offsets, is-cut, has-begun-here}
 use Rattle.cut_all.proofs.cut_all.Statement.{statement}
 use Rattle.cut_all.proofs.cut_all.Tie as tie
 
 -- the outcome of the tests, from what `shorter` and `begin` ensure
 tests : (c : tie.After-begin)
-    → let args = c .before .before .before .before .before .before .before .before .before .before .before .args in
-    Tests (args .head) (args .root-children .now) (args .root-words .now) (args .keys .now) (args .children .now) (args .words .now)
-    (args .frequencies .now) (args .logarithms .now)
+    → let args = c .before .before .before .before .before .before .before .before .before .before .args in
+    Tests (args .head) (args .roots .now) (args .slots .now) (args .records .now) (args .logarithms .now)
     (args .sentence .now) (args .chars .now) (args .offsets .now) (args .tokens .now) (c .begin .result)
-tests c = tested _ _ _ _ _ _ _ _ _ _ _ _ _ _ (c .before .shorter .ensures) (c .begin .ensures _ refl)
+tests c = tested _ _ _ _ _ _ _ _ _ _ _ (c .before .shorter .ensures) (c .begin .ensures _ refl)
 
 -- they pass the sentence
 passed : (c : tie.Else1) → isDone (c .before .before .begin .result) ≡ true
@@ -25,7 +24,7 @@ passed c = sym (c .before .is-done .ensures) ∙ not-false _ (c .if1 .left)
 
 -- the token area after the blocks
 abbrev area : tie.After-cut-all-blocks → List ℕ
-area c = c .cut-all-blocks .last .1 .1 .1 .1 .1 .1 .1 .1 .1 .1 .0
+area c = c .cut-all-blocks .last .1 .1 .1 .1 .1 .1 .1 .0
 
 shorter-requires : tie.Need-shorter-requires
 shorter-requires c κs = search needs
@@ -44,15 +43,15 @@ returns c =
     (is-refused (tests (c .before .before)) (sym (c .before .is-done .ensures) ∙ not-true _ (c .if1 .taken)), λ none. (refl, refl))
 
 shift-of-requires : tie.Need-shift-of-requires
-shift-of-requires c κs = slots (tests (c .before .before)) (passed c)
+shift-of-requires c κs = slot-count (tests (c .before .before)) (passed c)
 
 cut-all-blocks-requires : tie.Need-cut-all-blocks-requires
 cut-all-blocks-requires c κs =
     let shift = c .before .before .before in
     let tested = tests (shift .before .before .before) in
     let done = passed (shift .before) in (
-      long tested done,
-      ((slots tested done, shift .shift-of .ensures), ((short tested done, some-chars tested done), (room-chars tested done, room-offsets tested done))),
+      table tested done _ (shift .shift-of .ensures),
+      ((short tested done, some-chars tested done), (room-chars tested done, room-offsets tested done)),
     )
 
 same-length-2 : tie.Need-same-length-2

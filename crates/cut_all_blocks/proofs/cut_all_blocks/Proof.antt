@@ -15,16 +15,16 @@ use Rattle.cut_all_blocks.proofs.cut_all_blocks.Statement.{statement}
 use Rattle.cut_all_blocks.proofs.cut_all_blocks.Tie as tie
 
 abbrev Inv-loop : tie.InvT-loop
-Inv-loop root-children root-words keys children words shift used sentence chars₀ offsets₀ tokens₀ at₀ units₀ base₀ count₀ chars offsets tokens at units base count =
-    SameLong chars chars₀ offsets offsets₀ tokens tokens₀ × Cutting root-children root-words keys children words used sentence tokens₀ tokens at units base count
+Inv-loop roots slots shift used sentence chars₀ offsets₀ tokens₀ at₀ units₀ base₀ count₀ chars offsets tokens at units base count =
+    SameLong chars chars₀ offsets offsets₀ tokens tokens₀ × Cutting roots slots used sentence tokens₀ tokens at units base count
 
 abbrev μ-loop : tie.MeasureT-loop
-μ-loop root-children root-words keys children words shift used sentence chars₀ offsets₀ tokens₀ at₀ units₀ base₀ count₀ chars offsets tokens at units base count =
+μ-loop roots slots shift used sentence chars₀ offsets₀ tokens₀ at₀ units₀ base₀ count₀ chars offsets tokens at units base count =
     length sentence - at
 
 -- the function's entry, from the loop's head
 abbrev start : tie.At-loop Inv-loop μ-loop → tie.Start Inv-loop μ-loop
-start c = c .before .before .before .before .before .before .before .before .before
+start c = c .before .before .before .before .before .before .before .before
 
 -- the loop's head, from the run
 abbrev head : tie.After-next-recording Inv-loop μ-loop → tie.At-loop Inv-loop μ-loop
@@ -39,12 +39,12 @@ block : (c : tie.Joined2 Inv-loop μ-loop)
     → let at = head (run c) in
     let args = start at .args in
     let r = run c .next-recording .result in
-    BlockCut (args .root-children .now) (args .root-words .now) (args .keys .now) (args .children .now) (args .words .now) (args .used)
+    BlockCut (args .roots .now) (args .slots .now) (args .used)
     (at .loop .base) (r .matched) (take (r .chars) (run c .next-recording .last .1 .1 .1 .1 .0)) (run c .next-recording .last .1 .1 .1 .1 .1 .0)
     (at .loop .tokens) (at .loop .count) (c .if2 .cut) (c .if2 .tokens)
 block c =
     ⊎-elim
-    (λ w. as-answered (w .7) (w .8) (matched-cut (w .0 .taken) (w .4 .kept .1 .1 .1 .1 .1 .1 .1 .1 .1 .1 .1 .0) (w .4 .ensures)))
+    (λ w. as-answered (w .7) (w .8) (matched-cut (w .0 .taken) (w .4 .kept .1 .1 .1 .1 .1 .1 .1 .1 .0) (w .4 .ensures)))
     (λ w. as-answered (w .7) (w .8) (unmatched-cut (w .0 .left) (w .4 .kept .1 .1 .1 .1 .0) (w .4 .ensures)))
     (c .if2 .came)
 
@@ -60,9 +60,9 @@ start-requires c κs = search needs
 
 loop-holds : tie.Need-loop-holds Inv-loop μ-loop
 loop-holds c =
-    let entry = c .before .before .before .before .before .before .before .before in (
+    let entry = c .before .before .before .before .before .before .before in (
       record { long-chars = refl; long-offsets = refl; long-tokens = refl },
-      begins _ _ _ _ _ _ _ _ _ (entry .pre .1 .1 .0 .0) (entry .pre .1 .1 .0 .1) (c .start .ensures),
+      begins _ _ _ _ _ _ (entry .pre .1 .0 .0) (entry .pre .1 .0 .1) (c .start .ensures),
     )
 
 has-next-requires : tie.Need-has-next-requires Inv-loop μ-loop
@@ -72,9 +72,9 @@ next-recording-requires : tie.Need-next-recording-requires Inv-loop μ-loop
 next-recording-requires c κs =
     let loop = c .before .before .before .before in
     let entry = start loop in
-    let room = entry .pre .1 .1 .1 in
+    let room = entry .pre .1 .1 in
     let l = loop .loop .inv in (
-      (before-end (c .before .before), entry .pre .1 .1 .0 .0, l .1 .well-formed, l .1 .few-units),
+      (before-end (c .before .before), entry .pre .1 .0 .0, l .1 .well-formed, l .1 .few-units),
       (omega (arith, l .0, l .1 .counted, room), omega (arith, l .0, l .1 .counted, room)),
     )
 
@@ -86,13 +86,10 @@ cut-all-tokens-requires c κs =
     let recorded = run .next-recording .ensures in (
       entry .pre .0,
       (
-        entry .pre .1 .0,
-        (
-          omega (arith, recorded .fits),
-          omega (arith, run-within (loop .loop .inv .1) recorded, loop .loop .inv .0, entry .pre .1 .1 .1, run .next-recording .kept),
-          recorded .characters,
-          run-in-text (loop .loop .inv .1) recorded,
-        ),
+        omega (arith, recorded .fits),
+        omega (arith, run-within (loop .loop .inv .1) recorded, loop .loop .inv .0, entry .pre .1 .1, run .next-recording .kept),
+        recorded .characters,
+        run-in-text (loop .loop .inv .1) recorded,
       ),
     )
 
@@ -103,7 +100,7 @@ cut-all-unmatched-requires c κs =
     let entry = start loop in
     let recorded = run .next-recording .ensures in (
       omega (arith, recorded .fits),
-      omega (arith, run-within (loop .loop .inv .1) recorded, loop .loop .inv .0, entry .pre .1 .1 .1, run .next-recording .kept),
+      omega (arith, run-within (loop .loop .inv .1) recorded, loop .loop .inv .0, entry .pre .1 .1, run .next-recording .kept),
       run-in-text (loop .loop .inv .1) recorded,
     )
 

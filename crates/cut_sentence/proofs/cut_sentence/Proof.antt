@@ -11,12 +11,14 @@ use Rattle.book.specs.declared.Outcome.the-variants.{Done}
 use Rattle.book.specs.Returns.{Book, isDone}
 use Rattle.trie.specs.Trie.{trieOf}
 use Rattle.book.specs.Areas.{bookOf}
-use Rattle.book.proofs.Areas.{slot-count, equally-long}
+use Rattle.book.proofs.Areas.{slots-allowed, slot-table}
 use Rattle.book.proofs.Sizes.{sizes, head-within}
 use Rattle.cuts.specs.Tokens.{written}
-use Rattle.cuts.specs.Cuts.{answer, testedBook, cutWith}
-use Rattle.sentence.proofs.Beginning.{Begun, shorter-first, shorter-second}
-use Rattle.cut_sentence.proofs.Wholes.{refused-cut, whole-cut, work-fits, cut-begun, not-begun, begun-chars, begun-well-formed}
+use Rattle.cuts.specs.Cuts.{answer, Tested, testedBook, cutWith}
+use Rattle.sentence.specs.Sizes.{testedSizes}
+use Rattle.sentence.proofs.Beginning.{Begun, begun, shorter-first, shorter-second}
+use Rattle.sentence.proofs.Lent.{tested-lent}
+use Rattle.cut_sentence.proofs.Wholes.{refused-cut, whole-cut, work-fits, not-begun, begun-chars, begun-well-formed}
 use Rattle.cut_sentence.proofs.cut_sentence.Statement.{statement}
 use Rattle.cut_sentence.proofs.cut_sentence.Tie as tie
 
@@ -35,68 +37,72 @@ after-cut-blocks c =
     c .before .before .before .before .before .before .before .before .before .before .before .before .before .before .before .before .before .before
 
 same-length : tie.Need-same-length
-same-length c = after-cut-blocks c .cut-blocks .kept .1 .1 .1 .1 .1 .1 .1 .1 .0
+same-length c = after-cut-blocks c .cut-blocks .kept .1 .1 .1 .1 .1 .0
 
 same-length-2 : tie.Need-same-length-2
-same-length-2 c = after-cut-blocks c .cut-blocks .kept .1 .1 .1 .1 .1 .1 .1 .1 .1 .0
+same-length-2 c = after-cut-blocks c .cut-blocks .kept .1 .1 .1 .1 .1 .1 .0
 
 same-length-3 : tie.Need-same-length-3
-same-length-3 c = after-cut-blocks c .cut-blocks .kept .1 .1 .1 .1 .1 .1 .1 .1 .1 .1 .0
+same-length-3 c = after-cut-blocks c .cut-blocks .kept .1 .1 .1 .1 .1 .1 .1 .0
 
 same-length-4 : tie.Need-same-length-4
-same-length-4 c = after-cut-blocks c .cut-blocks .kept .1 .1 .1 .1 .1 .1 .1 .1 .1 .1 .1 .0
+same-length-4 c = after-cut-blocks c .cut-blocks .kept .1 .1 .1 .1 .1 .1 .1 .1 .0
 
 same-length-5 : tie.Need-same-length-5
-same-length-5 c = after-cut-blocks c .cut-blocks .kept .1 .1 .1 .1 .1 .1 .1 .1 .1 .1 .1 .1 .0
+same-length-5 c = after-cut-blocks c .cut-blocks .kept .1 .1 .1 .1 .1 .1 .1 .1 .1 .0
 
 same-length-6 : tie.Need-same-length-6
-same-length-6 c = after-cut-blocks c .cut-blocks .kept .1 .1 .1 .1 .1 .1 .1 .1 .1 .1 .1 .1 .1 .0
+same-length-6 c = after-cut-blocks c .cut-blocks .kept .1 .1 .1 .1 .1 .1 .1 .1 .1 .1 .0
 
 same-length-7 : tie.Need-same-length-7
-same-length-7 c = after-cut-blocks c .cut-blocks .kept .1 .1 .1 .1 .1 .1 .1 .1 .1 .1 .1 .1 .1 .1 .0
+same-length-7 c = after-cut-blocks c .cut-blocks .kept .1 .1 .1 .1 .1 .1 .1 .1 .1 .1 .1 .0
 
 same-length-8 : tie.Need-same-length-8
-same-length-8 c = after-cut-blocks c .cut-blocks .kept .1 .1 .1 .1 .1 .1 .1 .1 .1 .1 .1 .1 .1 .1 .1 .0
+same-length-8 c = after-cut-blocks c .cut-blocks .kept .1 .1 .1 .1 .1 .1 .1 .1 .1 .1 .1 .1 .0
 
 same-length-9 : tie.Need-same-length-9
-same-length-9 c = after-cut-blocks c .cut-blocks .kept .1 .1 .1 .1 .1 .1 .1 .1 .1 .1 .1 .1 .1 .1 .1 .1 .1 .0
+same-length-9 c = after-cut-blocks c .cut-blocks .kept .1 .1 .1 .1 .1 .1 .1 .1 .1 .1 .1 .1 .1 .1 .0
 
 -- ---- what the tests say of the cut
 
--- the book that is lent
+-- the book that is lent, and its tests by the slices' lengths
 module _ (lent : tie.Start) where
   abbrev book : Book
   book =
-      bookOf (lent .args .head)
-      (trieOf (lent .args .root-children .now) (lent .args .root-words .now) (lent .args .keys .now) (lent .args .children .now) (lent .args .words .now))
-      (lent .args .frequencies .now) (lent .args .logarithms .now)
+      bookOf (lent .args .head) (trieOf (lent .args .roots .now) (lent .args .slots .now)) (lent .args .records .now) (lent .args .logarithms .now)
+
+  abbrev by-sizes : Tested
+  by-sizes =
+      testedSizes (lent .args .head) (length (lent .args .roots .now)) (length (lent .args .slots .now)) (length (lent .args .records .now))
+      (length (lent .args .logarithms .now))
+
+  of-book : by-sizes ≡ testedBook book
+  of-book = tested-lent _ (lent .args .roots .now) (lent .args .slots .now) (lent .args .records .now) (lent .args .logarithms .now)
 
 -- after the tests: where the areas were lent, and what was found
 module _ (c : tie.After-begin) where
   abbrev lent : tie.Start
-  lent = c .before .before .before .before .before .before .before .before .before .before .before .before .before .before .before .before
+  lent = c .before .before .before .before .before .before .before .before .before .before .before .before .before .before .before
 
   tests : answer (c .begin .result) (written 0 (lent .args .tokens .now))
-      ≡ cutWith (testedBook (book lent)) (lent .args .work) (lent .args .tokens .now) (λ cs. answer Done) (lent .args .sentence .now)
+      ≡ cutWith (by-sizes lent) (lent .args .work) (lent .args .tokens .now) (λ cs. answer Done) (lent .args .sentence .now)
   tests = c .begin .ensures _ refl
 
 -- where they refused nothing, the cut has begun
 passed : (c : tie.Else1) → isDone (c .before .before .begin .result) ≡ true
 passed c = sym (c .before .is-done .ensures) ∙ not-false _ (c .if1 .left)
 
-began : (c : tie.Else1) → Begun (testedBook (book (lent (c .before .before)))) (lent (c .before .before) .args .work)
-    (lent (c .before .before) .args .tokens .now) (lent (c .before .before) .args .sentence .now)
-began c =
-    let begin = c .before .before in
-    cut-begun (lent begin .args .mode) (book (lent begin)) _ (lent begin .args .room) _ (lent begin .args .sentence .now) _ (tests begin) (passed c)
+began : (c : tie.Else1) → let start = lent (c .before .before) in
+    Begun (by-sizes start) (start .args .work) (start .args .tokens .now) (start .args .sentence .now)
+began c = begun _ _ _ _ _ (tests (c .before .before)) (passed c)
 
 shift-of-requires : tie.Need-shift-of-requires
-shift-of-requires c κs = slot-count _ _ _ _ _ _ _ (began c .sizes)
+shift-of-requires c κs = slots-allowed _ _ _ _ (began c .sizes)
 
 returns : tie.Need-returns
 returns c =
     let begin = c .before .before in (
-      refused-cut (lent begin .args .mode) (book (lent begin)) _ (lent begin .args .room) _ _ _ (tests begin)
+      refused-cut (lent begin .args .mode) (book (lent begin)) _ (of-book (lent begin)) _ (lent begin .args .room) _ _ _ (tests begin)
           (sym (c .before .is-done .ensures) ∙ not-true _ (c .if1 .taken)),
       λ none. (refl, refl, refl, refl, refl, refl, refl, refl),
     )
@@ -119,17 +125,18 @@ cut-blocks-requires c κs =
     let start = lent (tested .before .before) in
     let long = sizes _ _ _ _ _ _ _ (began tested .sizes) in
     let head = head-within _ _ _ (began tested .undamaged) in (
-      equally-long _ _ _ _ _ _ _ (began tested .sizes),
       (
-        (slot-count _ _ _ _ _ _ _ (began tested .sizes), shift .shift-of .ensures, omega (arith, long, head), omega (arith, long, head)),
+        slot-table _ _ _ _ (began tested .sizes) _ (shift .shift-of .ensures),
+        omega (arith, long, head),
+        omega (arith, long, head),
+      ),
+      (
+        (began tested .short, begun-well-formed _ _ _ _ (began tested)),
         (
-          (began tested .short, begun-well-formed (book start) _ _ _ (began tested)),
+          work-fits _ _ _ _ _ _ _ _ (begun-chars _ _ _ _ (began tested)) (start .pre .0),
           (
-            work-fits _ _ _ _ _ _ _ _ (begun-chars (book start) _ _ _ (began tested)) (start .pre .0),
-            (
-              omega (arith, start .pre .1, shorter-first (length (start .args .edge-ends .now)) (length (start .args .edge-records .now))),
-              omega (arith, start .pre .1, shorter-second (length (start .args .edge-ends .now)) (length (start .args .edge-records .now))),
-            ),
+            omega (arith, start .pre .1, shorter-first (length (start .args .edge-ends .now)) (length (start .args .edge-records .now))),
+            omega (arith, start .pre .1, shorter-second (length (start .args .edge-ends .now)) (length (start .args .edge-records .now))),
           ),
         ),
       ),
@@ -143,10 +150,10 @@ returns-2 c =
     let log = logged (blocks .before) in
     let tested = shifted log .before in
     let begin = tested .before .before in (
-      whole-cut (lent begin .args .mode) (book (lent begin)) _ (lent begin .args .room) _ _ _ (tests begin) (passed tested) _
+      whole-cut (lent begin .args .mode) (book (lent begin)) _ (of-book (lent begin)) _ (lent begin .args .room) _ _ _ (tests begin) (passed tested) _
           (blocks .cut-blocks .ensures (book (lent begin))
           (record { seen = record { same-trie = refl; records = refl }; same-logarithms = refl; same-total = log .log .ensures })),
-      λ none. absurd (not-begun (lent begin .args .mode) (book (lent begin)) _ (lent begin .args .room) _ _ _ (tests begin) (passed tested) none),
+      λ none. absurd (not-begun (lent begin .args .mode) (book (lent begin)) _ (of-book (lent begin)) _ (lent begin .args .room) _ _ _ (tests begin) (passed tested) none),
     )
 
 pub cut-sentence-spec : {M : Type 1} → statement M

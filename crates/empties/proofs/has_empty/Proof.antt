@@ -2,10 +2,13 @@
 -- Assumes nothing.
 use native.Mathlib.Omega.{arith}
 use lib.ListN.{length-take}
+use Rattle.empties.proofs.Empties.{both-parts, earlier-whole}
 use borrow.Author.Needs.{needs}
-use Rattle.empties.proofs.Empties.{both-parts}
 use Rattle.empties.proofs.has_empty.Statement.{statement}
 use Rattle.empties.proofs.has_empty.Tie as tie
+
+mul-cut : tie.Need-mul-cut
+mul-cut c = search needs
 
 mul-still-wanted : tie.Need-mul-still-wanted
 mul-still-wanted c = search needs
@@ -26,7 +29,7 @@ slice-aggregate-still-wanted : tie.Need-slice-aggregate-still-wanted
 slice-aggregate-still-wanted c = simp length-take (omega arith)
 
 still-wanted-requires-2 : tie.Need-still-wanted-requires-2
-still-wanted-requires-2 c κs = search needs
+still-wanted-requires-2 c κs = search earlier-whole
 
 returns : tie.Need-returns
 returns c = search both-parts
@@ -35,6 +38,7 @@ pub has-empty-spec : {M : Type 1} → statement M
 has-empty-spec =
     tie.close
     (tie.spec
+    mul-cut
     mul-still-wanted
     sub-still-wanted
     part-still-wanted-start

@@ -1,143 +1,115 @@
--- `insert::extend` meets its contract. The loop's invariant, `Extending`: the extension still to be made, from the place and the position on, comes to
--- that of the whole. Each turn is a law of `Extensions`. The measure is what is left of the text; each new node is paid for by a character, so that the
--- numbers fit. Assumes nothing.
+-- `insert::extend` meets its contract: the loop's invariant, `Extending`, says that the extension still to be made, from the place and the position on, comes
+-- to that of the whole. Assumes nothing.
+use borrow.Author.Needs.{needs}
 use Prim.Native.Nat.{_-_}
 use mathlib.Core.Path.{_∙_}
 use native.Mathlib.Omega.{arith}
+use lib.IntN.{pos}
 use lib.ListN.{length, drop}
-use mir.Facts.{toZ-ofZ}
-use mir.Syntax.{w32}
-use mir.Val.{toZ}
-use borrow.Author.Needs.{needs}
 use Rattle.utf8.proofs.Positions.{inside, value-below}
 use Rattle.trie.specs.Trie.{trieOf, extend}
 use Rattle.insert.specs.Insert.{characters}
-use Rattle.walk.proofs.Places.{inside-same}
-use Rattle.insert.proofs.Sizes.{sizes-same}
-use Rattle.insert.proofs.Extensions.{Extending, begins, ends, stops, goes-on}
+use Rattle.insert.proofs.Extensions.{Extending, begins, ends, stops, goes-on, still-inside, still-table}
 use Rattle.insert.proofs.extend.Statement.{statement}
 use Rattle.insert.proofs.extend.Tie as tie
 
 abbrev Inv-loop : tie.InvT-loop
-Inv-loop root-children₀ root-words₀ keys₀ children₀ words₀ shift s at₀ place₀ node₀ number root-children root-words keys children words at place node =
-    let tables = trieOf root-children₀ root-words₀ keys₀ children₀ words₀ in
-    Extending tables s (toZ w32 number) (extend tables place₀ (characters (drop at₀ s)) node₀ (toZ w32 number))
-    (trieOf root-children root-words keys children words) place at node
+Inv-loop roots₀ slots₀ shift s at₀ place₀ node₀ number roots slots at place node =
+    Extending roots₀ slots₀ s (pos number) (extend (trieOf roots₀ slots₀) place₀ (characters (drop at₀ s)) node₀ (pos number)) roots slots place at node
 
 abbrev μ-loop : tie.MeasureT-loop
-μ-loop root-children₀ root-words₀ keys₀ children₀ words₀ shift s at₀ place₀ node₀ number root-children root-words keys children words at place node =
-    length s - at
+μ-loop roots₀ slots₀ shift s at₀ place₀ node₀ number roots slots at place node = length s - at
+
+-- ---- the places of the code: the tables are lent, the loop's test is passed, a character is read, its step is made; behind the loop the word is set
+
+abbrev lent : tie.At-loop Inv-loop μ-loop → tie.Start Inv-loop μ-loop
+lent c = c .before .before .before .before
+
+abbrev read : tie.After-new-step-arg2 Inv-loop μ-loop → tie.After-next-char Inv-loop μ-loop
+read c = c .before .before
+
+abbrev looped : tie.After-next-char Inv-loop μ-loop → tie.At-loop Inv-loop μ-loop
+looped c = c .before .before
+
+abbrev stepped : tie.After-slice-known4 Inv-loop μ-loop → tie.After-new-step Inv-loop μ-loop
+stepped c = c .before .before .before .before
+
+abbrev worded : tie.After-slice-known6 Inv-loop μ-loop → tie.After-set-word Inv-loop μ-loop
+worded c = c .before .before .before .before
+
+-- where a turn goes on: the step that was made, and the character that was read for it
+module _ (c : tie.After-struct-known Inv-loop μ-loop) where
+  abbrev made : tie.After-new-step Inv-loop μ-loop
+  made = stepped (c .before .before .before .before)
+
+  abbrev character : tie.After-next-char Inv-loop μ-loop
+  character = read (made .before)
+
+-- where a turn ends the loop, and where it has ended
+abbrev ended : tie.At-match-keys2 Inv-loop μ-loop → tie.At-loop Inv-loop μ-loop
+ended c = looped (read (stepped (c .before) .before))
+
+abbrev done : tie.After-set-word Inv-loop μ-loop → tie.After-loop Inv-loop μ-loop
+done c = c .before .before .before
 
 loop-holds : tie.Need-loop-holds Inv-loop μ-loop
 loop-holds c =
-    let start = c .before .before .before .before in
-    begins _ _ _ _ _ _ (start .pre .1 .0) (start .pre .1 .1 .0) (start .pre .1 .1 .1)
+    let pre = c .before .before .before .pre .1 in
+    begins _ _ _ _ _ _ _ (pre .0) (pre .1 .0) (pre .1 .1 .0)
 
 next-char-requires : tie.Need-next-char-requires Inv-loop μ-loop
 next-char-requires c κs = search needs
 
 new-step-requires : tie.Need-new-step-requires Inv-loop μ-loop
 new-step-requires c κs =
-    let read = c .before .before .before .before .before in
-    let loop = read .before .before in
-    let start = loop .before .before .before .before .before in
-    let long = loop .loop .inv .long in (
-      sizes-same _ _ _ _ _ _ _ _ _ _ _ (long .rootChildren) (long .rootWords) (long .keys) (long .children) (long .words) (start .pre .0),
-      (inside-same _ _ _ _ _ (long .rootChildren) (long .keys) (loop .loop .inv .inside), value-below _ _ _ _ _ (read .next-char .ensures)),
-    )
+    let at = looped (read c) in
+    (still-table (at .loop .inv) (lent at .pre .0), (still-inside (at .loop .inv), value-below _ _ _ _ _ (read c .next-char .ensures)))
 
 enum-known-step : tie.Need-enum-known-step Inv-loop μ-loop
 enum-known-step c = search needs
 
--- where a step was to be made, and the turn in which it was: how long the tables are
-abbrev made : tie.At-match-keys2 Inv-loop μ-loop → tie.After-new-step Inv-loop μ-loop
-made c = c .before .before .before .before .before .before .before .before .before
-
-abbrev turn : tie.After-new-step Inv-loop μ-loop → tie.At-loop Inv-loop μ-loop
-turn c = c .before .before .before .before .before .before .before .before
-
 same-length : tie.Need-same-length Inv-loop μ-loop
-same-length c = made c .new-step .kept .0 ∙ turn (made c) .loop .inv .long .rootChildren
+same-length c = stepped (c .before) .new-step .kept .0 ∙ ended c .loop .inv .entries
 
 same-length-2 : tie.Need-same-length-2 Inv-loop μ-loop
-same-length-2 c = made c .new-step .kept .1 .0 ∙ turn (made c) .loop .inv .long .rootWords
-
-same-length-3 : tie.Need-same-length-3 Inv-loop μ-loop
-same-length-3 c = made c .new-step .kept .1 .1 .0 ∙ turn (made c) .loop .inv .long .keys
-
-same-length-4 : tie.Need-same-length-4 Inv-loop μ-loop
-same-length-4 c = made c .new-step .kept .1 .1 .1 .0 ∙ turn (made c) .loop .inv .long .children
-
-same-length-5 : tie.Need-same-length-5 Inv-loop μ-loop
-same-length-5 c = made c .new-step .kept .1 .1 .1 .1 .0 ∙ turn (made c) .loop .inv .long .words
+same-length-2 c = stepped (c .before) .new-step .kept .1 .0 ∙ ended c .loop .inv .numbers
 
 returns : tie.Need-returns Inv-loop μ-loop
 returns c =
-    let made = c .before .before .before .before .before .before .before .before .before in
-    let read = made .before .before .before .before .before .before in
-    let loop = read .before .before in
-    let start = loop .before .before .before .before .before in
-    rw (toZ-ofZ (start .fits .number)) at (stops (loop .loop .inv) (read .next-char .ensures) (made .new-step .ensures) (c .match .keys2))
+    let step = stepped (c .before) in
+    stops (ended c .loop .inv) (read (step .before) .next-char .ensures) _ _ (step .new-step .ensures) (c .match .keys2)
 
 add-at : tie.Need-add-at Inv-loop μ-loop
-add-at c =
-    let child = c .before .before in
-    let made = child .before .before .before .before .before .before .before .before .before .before in
-    let read = made .before .before .before .before .before .before in
-    omega (arith, inside _ _ _ _ _ (read .next-char .ensures), read)
+add-at c = omega (arith, inside _ _ _ _ _ (character c .next-char .ensures), character c)
 
 add-node : tie.Need-add-node Inv-loop μ-loop
-add-node c =
-    let child = c .before .before in
-    let made = child .before .before .before .before .before .before .before .before .before .before in
-    let read = made .before .before .before .before .before .before in
-    omega (arith, inside _ _ _ _ _ (read .next-char .ensures), read)
+add-node c = omega (arith, inside _ _ _ _ _ (character c .next-char .ensures), character c)
 
 loop-less : tie.Need-loop-less Inv-loop μ-loop
-loop-less c =
-    let child = c .before .before in
-    let made = child .before .before .before .before .before .before .before .before .before .before in
-    let read = made .before .before .before .before .before .before in
-    omega (arith, inside _ _ _ _ _ (read .next-char .ensures), read)
+loop-less c = omega (arith, inside _ _ _ _ _ (character c .next-char .ensures), character c)
 
 loop-again : tie.Need-loop-again Inv-loop μ-loop
 loop-again c =
-    let child = c .before .before in
-    let made = child .before .before .before .before .before .before .before .before .before .before in
-    let read = made .before .before .before .before .before .before in
-    let loop = read .before .before in
-    let start = loop .before .before .before .before .before in
-    goes-on (loop .loop .inv) (read .next-char .ensures) (made .new-step .ensures) (start .pre .0 .slotCount) (child .step .given .1)
+    let at = looped (character c) in
+    let step = made c .new-step in
+    goes-on (at .loop .inv) (character c .next-char .ensures) _ _ (step .ensures) (step .kept .0) (step .kept .1 .0) (lent at .pre .0)
+    (c .before .before .step .given .1)
 
 set-word-requires : tie.Need-set-word-requires Inv-loop μ-loop
 set-word-requires c κs =
-    let loop = c .before .before .before in
-    let start = loop .before .before .before .before .before in
-    let here = loop .loop .inv in
-    inside-same _ _ _ _ _ (here .long .rootWords ∙ start .pre .0 .rootLengths) (here .long .words ∙ start .pre .0 .wordLengths) (here .inside)
+    let at = c .before .before .before in
+    (still-inside (at .loop .inv), lent at .pre .1 .1 .1 .1)
 
-same-length-6 : tie.Need-same-length-6 Inv-loop μ-loop
-same-length-6 c = c .before .before .before .before .before .before .loop .inv .long .rootChildren
+same-length-3 : tie.Need-same-length-3 Inv-loop μ-loop
+same-length-3 c = worded c .set-word .kept .0 ∙ done (worded c) .before .loop .inv .entries
 
-same-length-7 : tie.Need-same-length-7 Inv-loop μ-loop
-same-length-7 c = c .before .before .set-word .kept .0 ∙ c .before .before .before .before .before .before .loop .inv .long .rootWords
-
-same-length-8 : tie.Need-same-length-8 Inv-loop μ-loop
-same-length-8 c = c .before .before .before .before .before .before .loop .inv .long .keys
-
-same-length-9 : tie.Need-same-length-9 Inv-loop μ-loop
-same-length-9 c = c .before .before .before .before .before .before .loop .inv .long .children
-
-same-length-10 : tie.Need-same-length-10 Inv-loop μ-loop
-same-length-10 c = c .before .before .set-word .kept .1 .0 ∙ c .before .before .before .before .before .before .loop .inv .long .words
+same-length-4 : tie.Need-same-length-4 Inv-loop μ-loop
+same-length-4 c = worded c .set-word .kept .1 .0 ∙ done (worded c) .before .loop .inv .numbers
 
 returns-2 : tie.Need-returns-2 Inv-loop μ-loop
 returns-2 c =
-    let named = c .before .before in
-    let past = named .before .before .before in
-    let loop = past .before in
-    let start = loop .before .before .before .before .before in
-    rw (toZ-ofZ (start .fits .number)) at (ends (loop .loop .inv) _ (past .loop-test .left) (named .set-word .ensures _ _ _))
+    let after = done (worded c) in
+    ends (after .before .loop .inv) _ (after .loop-test .left) (worded c .set-word .ensures)
 
 pub extend-spec : {M : Type 1} → statement M
 extend-spec =
@@ -151,18 +123,12 @@ extend-spec =
     enum-known-step
     same-length
     same-length-2
-    same-length-3
-    same-length-4
-    same-length-5
     returns
     add-at
     add-node
     loop-less
     loop-again
     set-word-requires
-    same-length-6
-    same-length-7
-    same-length-8
-    same-length-9
-    same-length-10
+    same-length-3
+    same-length-4
     returns-2)

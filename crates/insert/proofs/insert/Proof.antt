@@ -1,28 +1,28 @@
 -- `insert::insert` meets its contract: what `mark` has left to do, `extend` does (`Marks`). Assumes nothing.
-use mathlib.Core.Path.{refl, _∙_}
-use mir.Facts.{toZ-ofZ}
-use borrow.Author.Needs.{needs}
+use mathlib.Core.Path.{_∙_}
 use Rattle.walk.proofs.Places.{inside-same}
-use Rattle.insert.proofs.Sizes.{sizes-same}
+use Rattle.insert.proofs.Sizes.{table-same}
 use Rattle.insert.proofs.Marks.{inserted, not-inserted, place-ready, rest-ready}
+use borrow.Author.Needs.{needs}
 use Rattle.insert.proofs.insert.Statement.{statement}
 use Rattle.insert.proofs.insert.Tie as tie
 
--- ---- the places of the code: the tables and the word are lent, the steps that are there are marked, and the place to extend from is known
+-- ---- the places of the code: the tables are lent, the steps that are there are marked, and the rest is made
 
-abbrev lent : tie.After-mark-arg3 → tie.Start
-lent c = c .before .before .before .before .before .before .before
+abbrev lent : tie.After-mark → tie.Start
+lent c = c .before .before .before .before .before .before
 
-abbrev marked : tie.After-slice-known6 → tie.After-mark
-marked c = c .before .before .before .before .before .before
+abbrev marked : tie.After-slice-known4 → tie.After-mark
+marked c = c .before .before .before .before
 
-abbrev placed : tie.After-extend-arg5 → tie.After-place
-placed c = c .before .before .before .before .before .before
+abbrev reached : tie.After-extend-arg2 → tie.After-place
+reached c = c .before .before .before
+
+abbrev extended : tie.After-slice-known6 → tie.After-extend
+extended c = c .before .before .before .before
 
 mark-requires : tie.Need-mark-requires
-mark-requires c κs =
-    let pre = lent c .pre in
-    (pre .0 .slotCount, (pre .0 .shifted, (pre .0 .childLengths, pre .1 .0)))
+mark-requires c κs = search needs
 
 enum-known-place : tie.Need-enum-known-place
 enum-known-place c = search needs
@@ -30,65 +30,37 @@ enum-known-place c = search needs
 enum-told : tie.Need-enum-told
 enum-told c = search needs
 
--- where the call has returned, which says how long the areas are
-abbrev after-mark : tie.After-enum-told → tie.After-mark
-after-mark c = c .before .before .before .before .before .before .before .before
-
-abbrev after-extend : tie.After-words → tie.After-extend
-after-extend c = c .before .before .before .before .before .before .before .before
-
-abbrev after-mark-2 : tie.After-words → tie.After-mark
-after-mark-2 c =
-    c .before .before .before .before .before .before .before .before .before .before .before .before .before .before .before .before .before .before .before
-    .before .before .before .before
-
 same-length : tie.Need-same-length
-same-length c = after-mark c .mark .kept .0
+same-length c = search needs
 
 same-length-2 : tie.Need-same-length-2
-same-length-2 c = after-mark c .mark .kept .1 .0
-
-same-length-3 : tie.Need-same-length-3
-same-length-3 c = after-mark c .mark .kept .1 .1 .0
+same-length-2 c = search needs
 
 returns : tie.Need-returns
-returns c = not-inserted _ _ _ _ _ _ _ (marked (c .before .before) .mark .ensures .1 _ _) (c .enum-told .given .1)
+returns c = not-inserted _ _ _ _ _ _ _ (marked (c .before .before) .mark .ensures .1) (c .enum-told .given .1)
 
 extend-requires : tie.Need-extend-requires
 extend-requires c κs =
-    let place = placed c in
-    let marks = marked (place .before .before) in
-    let pre = lent (marks .before) .pre in
-    let kept = marks .mark .kept in (
-      sizes-same _ _ _ _ _ _ _ _ _ _ _ (kept .0) refl (kept .1 .0) (kept .1 .1 .0) refl (pre .0),
-      (
-        inside-same _ _ _ _ _ (kept .0) (kept .1 .0) (place-ready _ _ _ _ (marks .mark .ensures .0) _ _ (place .place .given .1)),
-        (rest-ready _ _ _ _ (marks .mark .ensures .0) _ _ (place .place .given .1), pre .1 .1),
-      ),
+    let at = reached c .place .given .1 in
+    let marks = marked (reached c .before .before) in
+    let kept = marks .mark .kept in
+    let ready = marks .mark .ensures .0 in
+    let pre = lent marks .pre in (
+      table-same _ _ _ (kept .1 .0) (pre .0),
+      (inside-same _ _ _ _ _ (kept .0) (kept .1 .0) (place-ready _ _ _ _ ready _ _ at), (rest-ready _ _ _ _ ready _ _ at, pre .1 .1)),
     )
 
+same-length-3 : tie.Need-same-length-3
+same-length-3 c = extended c .extend .kept .0 ∙ marked (reached (extended c .before) .before .before) .mark .kept .0
+
 same-length-4 : tie.Need-same-length-4
-same-length-4 c = after-extend c .extend .kept .0 ∙ after-mark-2 c .mark .kept .0
-
-same-length-5 : tie.Need-same-length-5
-same-length-5 c = after-extend c .extend .kept .1 .0
-
-same-length-6 : tie.Need-same-length-6
-same-length-6 c = after-extend c .extend .kept .1 .1 .0 ∙ after-mark-2 c .mark .kept .1 .0
-
-same-length-7 : tie.Need-same-length-7
-same-length-7 c = after-extend c .extend .kept .1 .1 .1 .0 ∙ after-mark-2 c .mark .kept .1 .1 .0
-
-same-length-8 : tie.Need-same-length-8
-same-length-8 c = after-extend c .extend .kept .1 .1 .1 .1 .0
+same-length-4 c = extended c .extend .kept .1 .0 ∙ marked (reached (extended c .before) .before .before) .mark .kept .1 .0
 
 returns-2 : tie.Need-returns-2
 returns-2 c =
-    let extended = c .before .before .before .before .before .before .before .before in
-    let place = placed (extended .before) in
-    let marks = marked (place .before .before) in
-    inserted _ _ _ _ _ _ _ (marks .mark .ensures .1 _ _) _ _ _ (place .place .given .1)
-    (rw (toZ-ofZ (lent (marks .before) .fits .number)) at (extended .extend .ensures))
+    let rest = extended c in
+    let at = reached (rest .before) in
+    inserted _ _ _ _ _ _ _ (marked (at .before .before) .mark .ensures .1) _ _ _ (at .place .given .1) (rest .extend .ensures)
 
 pub insert-spec : {M : Type 1} → statement M
 insert-spec =
@@ -99,12 +71,8 @@ insert-spec =
     enum-told
     same-length
     same-length-2
-    same-length-3
     returns
     extend-requires
+    same-length-3
     same-length-4
-    same-length-5
-    same-length-6
-    same-length-7
-    same-length-8
     returns-2)

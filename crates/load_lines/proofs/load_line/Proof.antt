@@ -10,12 +10,12 @@ use Rattle.load_lines.proofs.load_line.Tie as tie
 -- ---- the places of the code: the book and the line are lent, the line is parsed, it has a word, and the logarithm is looked up
 
 abbrev lent : tie.After-parse-line → tie.Start
-lent c = c .before .before .before .before .before .before .before
+lent c = c .before .before .before .before .before .before
 
-abbrev logged : tie.After-load-entry-arg7 → tie.After-log-by
-logged c = c .before .before .before .before .before .before .before
+abbrev logged : tie.After-load-entry-arg4 → tie.After-log-by
+logged c = c .before .before .before .before
 
-abbrev has-word : tie.After-load-entry-arg7 → tie.After-start
+abbrev has-word : tie.After-load-entry-arg4 → tie.After-start
 has-word c = logged c .before .before
 
 -- the word is a part of the line
@@ -77,35 +77,25 @@ returns-3 : tie.Need-returns-3
 returns-3 c = line-bad _ _ (c .before .before .parse-line .ensures) (c .enum-told3 .given .1)
 
 -- where the call has returned, which says how long the areas are
-abbrev after-load-entry : tie.After-slice-known10 → tie.After-load-entry
-after-load-entry c = c .before .before .before .before .before .before .before .before .before .before .before .before
+abbrev enters : tie.After-slice-known8 → tie.After-load-entry
+enters c = c .before .before .before .before .before .before .before .before
 
 same-length : tie.Need-same-length
-same-length c = after-load-entry c .load-entry .kept .1 .0
+same-length c = enters c .load-entry .kept .1 .0
 
 same-length-2 : tie.Need-same-length-2
-same-length-2 c = after-load-entry c .load-entry .kept .1 .1 .0
+same-length-2 c = enters c .load-entry .kept .1 .1 .0
 
 same-length-3 : tie.Need-same-length-3
-same-length-3 c = after-load-entry c .load-entry .kept .1 .1 .1 .0
+same-length-3 c = enters c .load-entry .kept .1 .1 .1 .0
 
 same-length-4 : tie.Need-same-length-4
-same-length-4 c = after-load-entry c .load-entry .kept .1 .1 .1 .1 .0
-
-same-length-5 : tie.Need-same-length-5
-same-length-5 c = after-load-entry c .load-entry .kept .1 .1 .1 .1 .1 .0
-
-same-length-6 : tie.Need-same-length-6
-same-length-6 c = after-load-entry c .load-entry .kept .1 .1 .1 .1 .1 .1 .0
-
-same-length-7 : tie.Need-same-length-7
-same-length-7 c = after-load-entry c .load-entry .kept .1 .1 .1 .1 .1 .1 .1 .0
+same-length-4 c = enters c .load-entry .kept .1 .1 .1 .1 .0
 
 returns-4 : tie.Need-returns-4
 returns-4 c =
-    let enters = c .before .before .before .before .before .before .before .before .before .before .before .before in
-    let word = has-word (enters .before .before) in
-    word-entered _ (parsed word .parse-line .ensures) (word .start .given .1) _ (enters .load-entry .ensures)
+    let word = has-word (enters c .before .before) in
+    word-entered _ (parsed word .parse-line .ensures) (word .start .given .1) _ (enters c .load-entry .ensures)
 
 pub load-line-spec : {M : Type 1} → statement M
 load-line-spec =
@@ -128,7 +118,4 @@ load-line-spec =
     same-length-2
     same-length-3
     same-length-4
-    same-length-5
-    same-length-6
-    same-length-7
     returns-4)

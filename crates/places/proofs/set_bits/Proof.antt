@@ -1,8 +1,8 @@
 -- `places::set_bits` meets its contract: each place is a case of `withBits`, and its index lies inside the tables (`Places`). Assumes nothing.
-use borrow.Author.Needs.{needs}
 use Rattle.trie.proofs.Steps.{key-bit-below, child-bit-below}
-use Rattle.walk.proofs.Places.{entry-inside, slot-inside}
+use Rattle.walk.proofs.Places.{entry-inside, slot-inside, slot-still}
 use Rattle.places.proofs.Places.{bits-root, bits-entry, bits-slot}
+use borrow.Author.Needs.{needs}
 use Rattle.places.proofs.set_bits.Statement.{statement}
 use Rattle.places.proofs.set_bits.Tie as tie
 
@@ -15,53 +15,41 @@ enum-told c = search needs
 enum-known-place : tie.Need-enum-known-place
 enum-known-place c = search needs
 
-mul-set-bit-u32 : tie.Need-mul-set-bit-u32
-mul-set-bit-u32 c = search (needs, entry-inside)
+mul-with-child-bit : tie.Need-mul-with-child-bit
+mul-with-child-bit c = search (needs, entry-inside)
 
-slice-read-set-bit-u32 : tie.Need-slice-read-set-bit-u32
-slice-read-set-bit-u32 c = search (needs, entry-inside)
+slice-read-with-child-bit : tie.Need-slice-read-with-child-bit
+slice-read-with-child-bit c = search (needs, entry-inside)
 
-set-bit-u32-requires : tie.Need-set-bit-u32-requires
-set-bit-u32-requires c κs = search child-bit-below
+with-child-bit-requires : tie.Need-with-child-bit-requires
+with-child-bit-requires c κs = search child-bit-below
 
-mul-root-children : tie.Need-mul-root-children
-mul-root-children c = search (needs, entry-inside)
+mul-roots : tie.Need-mul-roots
+mul-roots c = search (needs, entry-inside)
 
-slice-write-root-children : tie.Need-slice-write-root-children
-slice-write-root-children c = search (needs, entry-inside)
+slice-write-roots : tie.Need-slice-write-roots
+slice-write-roots c = search (needs, entry-inside)
 
 enum-known-place-2 : tie.Need-enum-known-place-2
 enum-known-place-2 c = search needs
 
-mul-set-bit-u64 : tie.Need-mul-set-bit-u64
-mul-set-bit-u64 c = search (needs, slot-inside)
-
-slice-read-set-bit-u64 : tie.Need-slice-read-set-bit-u64
-slice-read-set-bit-u64 c = search (needs, slot-inside)
+key-at-requires : tie.Need-key-at-requires
+key-at-requires c κs = search slot-inside
 
 set-bit-u64-requires : tie.Need-set-bit-u64-requires
 set-bit-u64-requires c κs = search key-bit-below
 
-mul-keys : tie.Need-mul-keys
-mul-keys c = search (needs, slot-inside)
+link-at-requires : tie.Need-link-at-requires
+link-at-requires c κs = search slot-inside
 
-slice-write-keys : tie.Need-slice-write-keys
-slice-write-keys c = search (needs, slot-inside)
+with-child-bit-requires-2 : tie.Need-with-child-bit-requires-2
+with-child-bit-requires-2 c κs = search child-bit-below
 
-mul-set-bit-u32-2 : tie.Need-mul-set-bit-u32-2
-mul-set-bit-u32-2 c = search (needs, slot-inside)
+set-key-requires : tie.Need-set-key-requires
+set-key-requires c κs = search slot-inside
 
-slice-read-set-bit-u32-2 : tie.Need-slice-read-set-bit-u32-2
-slice-read-set-bit-u32-2 c = search (needs, slot-inside)
-
-set-bit-u32-requires-2 : tie.Need-set-bit-u32-requires-2
-set-bit-u32-requires-2 c κs = search child-bit-below
-
-mul-children : tie.Need-mul-children
-mul-children c = search (needs, slot-inside)
-
-slice-write-children : tie.Need-slice-write-children
-slice-write-children c = search (needs, slot-inside)
+set-link-requires : tie.Need-set-link-requires
+set-link-requires c κs = search slot-still
 
 returns : tie.Need-returns
 returns c = search bits-root
@@ -75,9 +63,6 @@ returns-2 c = search bits-entry
 same-length-2 : tie.Need-same-length-2
 same-length-2 c = search needs
 
-same-length-3 : tie.Need-same-length-3
-same-length-3 c = search needs
-
 returns-3 : tie.Need-returns-3
 returns-3 c = search bits-slot
 
@@ -88,25 +73,20 @@ set-bits-spec =
     filter-bits-requires
     enum-told
     enum-known-place
-    mul-set-bit-u32
-    slice-read-set-bit-u32
-    set-bit-u32-requires
-    mul-root-children
-    slice-write-root-children
+    mul-with-child-bit
+    slice-read-with-child-bit
+    with-child-bit-requires
+    mul-roots
+    slice-write-roots
     enum-known-place-2
-    mul-set-bit-u64
-    slice-read-set-bit-u64
+    key-at-requires
     set-bit-u64-requires
-    mul-keys
-    slice-write-keys
-    mul-set-bit-u32-2
-    slice-read-set-bit-u32-2
-    set-bit-u32-requires-2
-    mul-children
-    slice-write-children
+    link-at-requires
+    with-child-bit-requires-2
+    set-key-requires
+    set-link-requires
     returns
     same-length
     returns-2
     same-length-2
-    same-length-3
     returns-3)

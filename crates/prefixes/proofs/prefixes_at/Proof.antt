@@ -4,29 +4,28 @@
 use Prim.Native.Nat.{_-_}
 use native.Mathlib.Omega.{arith}
 use borrow.Author.Needs.{needs}
-use Rattle.walk.proofs.Places.{word-inside}
 use Rattle.cuts.proofs.Walks.{next-inside}
 use Rattle.prefixes.proofs.Walks.{Walking, begins, ends-here, ends-nothing, ends-damaged, ends-bad, ends-full, goes-on, goes-on-behind, in-use-record}
 use Rattle.prefixes.proofs.prefixes_at.Statement.{statement}
 use Rattle.prefixes.proofs.prefixes_at.Tie as tie
 
 abbrev Inv-loop : tie.InvT-loop
-Inv-loop root-children root-words keys children words shift used chars n at edge-ends₀ edge-records₀ room taken count₀ place₀ next₀ edge-ends
+Inv-loop roots slots shift used chars n at edge-ends₀ edge-records₀ room taken count₀ place₀ next₀ edge-ends
     edge-records count place next =
-    Walking root-children root-words keys children words used chars n at room taken edge-ends₀ edge-records₀ edge-ends edge-records count place next
+    Walking roots slots used chars n at room taken edge-ends₀ edge-records₀ edge-ends edge-records count place next
 
 abbrev μ-loop : tie.MeasureT-loop
-μ-loop root-children root-words keys children words shift used chars n at edge-ends₀ edge-records₀ room taken count₀ place₀ next₀ edge-ends
+μ-loop roots slots shift used chars n at edge-ends₀ edge-records₀ room taken count₀ place₀ next₀ edge-ends
     edge-records count place next =
     n - next
 
 -- the function's entry, from the loop's head
 abbrev start : tie.At-loop Inv-loop μ-loop → tie.Start Inv-loop μ-loop
-start c = c .before .before .before .before .before .before .before
+start c = c .before .before .before .before .before .before
 
 loop-holds : tie.Need-loop-holds Inv-loop μ-loop
-loop-holds c = begins _ _ _ _ _ _ _ _ _ _ _ _ _ (c .before .before .before .before .before .before .pre .1 .1 .0 .0)
-    (c .before .before .before .before .before .before .pre .1 .1 .1 .0)
+loop-holds c = begins _ _ _ _ _ _ _ _ _ _ (c .before .before .before .before .before .pre .1 .0 .0)
+    (c .before .before .before .before .before .pre .1 .1 .0)
 
 mul-tested-step : tie.Need-mul-tested-step Inv-loop μ-loop
 mul-tested-step c = search needs
@@ -37,10 +36,7 @@ shared-slice-read-tested-step c = search needs
 tested-step-requires : tie.Need-tested-step-requires Inv-loop μ-loop
 tested-step-requires c κs =
     let loop = c .before .before in
-    let entry = start loop in (
-      (entry .pre .0 .slotChildren, entry .pre .1 .0 .0),
-      (entry .pre .1 .0 .1, (loop .loop .inv .walk .inside, entry .pre .1 .1 .0 .3 _ (c .before .loop-test .taken))),
-    )
+    let entry = start loop in (entry .pre .0, (loop .loop .inv .walk .inside, entry .pre .1 .0 .3 _ (c .before .loop-test .taken)))
 
 enum-known-child : tie.Need-enum-known-child Inv-loop μ-loop
 enum-known-child c = search needs
@@ -61,7 +57,7 @@ returns : tie.Need-returns Inv-loop μ-loop
 returns c =
     let step = c .before .before in
     let loop = step .before .before .before in
-    ends-nothing (loop .loop .inv) (start loop .pre .1 .1 .0 .1) (step .before .before .loop-test .taken) (step .tested-step .ensures)
+    ends-nothing (loop .loop .inv) (start loop .pre .1 .0 .1) (step .before .before .loop-test .taken) (step .tested-step .ensures)
     (c .enum-told .given .1)
 
 enum-told-2 : tie.Need-enum-told-2 Inv-loop μ-loop
@@ -77,16 +73,15 @@ returns-2 : tie.Need-returns-2 Inv-loop μ-loop
 returns-2 c =
     let step = c .before .before in
     let loop = step .before .before .before in
-    ends-damaged (loop .loop .inv) (start loop .pre .1 .1 .0 .1) (step .before .before .loop-test .taken) (step .tested-step .ensures) (c .enum-told2 .given .1)
+    ends-damaged (loop .loop .inv) (start loop .pre .1 .0 .1) (step .before .before .loop-test .taken) (step .tested-step .ensures) (c .enum-told2 .given .1)
 
 word-at-requires : tie.Need-word-at-requires Inv-loop μ-loop
 word-at-requires c κs =
     let step = c .before .before .before in
     let loop = step .before .before .before in
     let entry = start loop in
-    word-inside _ _ _ _ _ _ (entry .pre .0)
-    (next-inside (loop .loop .inv .walk) (entry .pre .1 .1 .0 .1) (step .before .before .loop-test .taken) (step .tested-step .ensures)
-    (c .before .child .given .1) (entry .pre .1 .0 .0))
+    next-inside (loop .loop .inv .walk) (entry .pre .1 .0 .1) (step .before .before .loop-test .taken) (step .tested-step .ensures)
+    (c .before .child .given .1) (entry .pre .0)
 
 enum-told-3 : tie.Need-enum-told-3 Inv-loop μ-loop
 enum-told-3 c = search needs
@@ -101,9 +96,9 @@ loop-again c =
     let step = child .before .before in
     let loop = step .before .before .before in
     let entry = start loop in
-    goes-on (loop .loop .inv) (entry .pre .1 .1 .0 .1) (step .before .before .loop-test .taken) (step .tested-step .ensures) (child .child .given .1)
+    goes-on (loop .loop .inv) (entry .pre .1 .0 .1) (step .before .before .loop-test .taken) (step .tested-step .ensures) (child .child .given .1)
     (number .word-at .ensures)
-    (entry .pre .1 .0 .0) (c .enum-told3 .given .1)
+    (entry .pre .0) (c .enum-told3 .given .1)
 
 enum-known-record : tie.Need-enum-known-record Inv-loop μ-loop
 enum-known-record c = search needs
@@ -121,7 +116,7 @@ returns-3 c =
     let child = number .before .before in
     let step = child .before .before in
     let loop = step .before .before .before in
-    ends-full (loop .loop .inv) (start loop .pre .1 .1 .0 .1) (step .before .before .loop-test .taken) (step .tested-step .ensures)
+    ends-full (loop .loop .inv) (start loop .pre .1 .0 .1) (step .before .before .loop-test .taken) (step .tested-step .ensures)
     (child .child .given .1) (number .word-at .ensures)
     (found .«record» .given .1) (omega (arith, c .if1 .taken))
 
@@ -131,7 +126,7 @@ cast-edge-ends c = search needs
 mul-edge-ends : tie.Need-mul-edge-ends Inv-loop μ-loop
 mul-edge-ends c =
     let loop = c .before .before .before .before .before .before .before .before .before .before .before in
-    omega (arith, loop .loop .inv .within, start loop .pre .1 .1 .1, start loop .good .1 .1 .1 .1 .1 .1 .1 .1 .1 .1 .0)
+    omega (arith, loop .loop .inv .within, start loop .pre .1 .1, start loop .good .1 .1 .1 .1 .1 .1 .1 .0)
 
 slice-write-edge-ends : tie.Need-slice-write-edge-ends Inv-loop μ-loop
 slice-write-edge-ends c = search needs
@@ -145,14 +140,14 @@ cast-edge-records c =
     let loop = step .before .before .before in
     let entry = start loop in
     let below =
-    in-use-record (loop .loop .inv) (entry .pre .1 .1 .0 .1) (step .before .before .loop-test .taken) (step .tested-step .ensures) (child .child .given .1)
+    in-use-record (loop .loop .inv) (entry .pre .1 .0 .1) (step .before .before .loop-test .taken) (step .tested-step .ensures) (child .child .given .1)
     (number .word-at .ensures) (found .«record» .given .1) in
-    omega (arith, below, entry .pre .1 .1 .1 .3)
+    omega (arith, below, entry .pre .1 .1 .3)
 
 mul-edge-records : tie.Need-mul-edge-records Inv-loop μ-loop
 mul-edge-records c =
     let loop = c .before .before .before .before .before .before .before .before .before .before .before in
-    omega (arith, loop .loop .inv .within, start loop .pre .1 .1 .1, start loop .good .1 .1 .1 .1 .1 .1 .1 .1 .1 .1 .0)
+    omega (arith, loop .loop .inv .within, start loop .pre .1 .1, start loop .good .1 .1 .1 .1 .1 .1 .1 .0)
 
 slice-write-edge-records : tie.Need-slice-write-edge-records Inv-loop μ-loop
 slice-write-edge-records c = search needs
@@ -171,9 +166,9 @@ loop-again-2 c =
     let step = child .before .before in
     let loop = step .before .before .before in
     let entry = start loop in
-    goes-on-behind (loop .loop .inv) (entry .pre .1 .1 .0 .1) (step .before .before .loop-test .taken) (step .tested-step .ensures) (child .child .given .1)
-    (number .word-at .ensures) (found .«record» .given .1) (entry .pre .1 .0 .0) (omega (arith, c .if1 .left, loop .loop .inv .within))
-    (entry .pre .1 .1 .1 .1) (entry .pre .1 .1 .1 .2)
+    goes-on-behind (loop .loop .inv) (entry .pre .1 .0 .1) (step .before .before .loop-test .taken) (step .tested-step .ensures) (child .child .given .1)
+    (number .word-at .ensures) (found .«record» .given .1) (entry .pre .0) (omega (arith, c .if1 .left, loop .loop .inv .within))
+    (entry .pre .1 .1 .1) (entry .pre .1 .1 .2)
 
 enum-told-4 : tie.Need-enum-told-4 Inv-loop μ-loop
 enum-told-4 c = search needs
@@ -190,7 +185,7 @@ returns-4 c =
     let child = number .before .before in
     let step = child .before .before in
     let loop = step .before .before .before in
-    ends-bad (loop .loop .inv) (start loop .pre .1 .1 .0 .1) (step .before .before .loop-test .taken) (step .tested-step .ensures)
+    ends-bad (loop .loop .inv) (start loop .pre .1 .0 .1) (step .before .before .loop-test .taken) (step .tested-step .ensures)
     (child .child .given .1) (number .word-at .ensures)
     (c .enum-told4 .given .1)
 
@@ -201,7 +196,7 @@ same-length-10 : tie.Need-same-length-10 Inv-loop μ-loop
 same-length-10 c = search
 
 returns-5 : tie.Need-returns-5 Inv-loop μ-loop
-returns-5 c = ends-here (c .before .loop .inv) (start (c .before) .pre .1 .1 .0 .1) (c .loop-test .left)
+returns-5 c = ends-here (c .before .loop .inv) (start (c .before) .pre .1 .0 .1) (c .loop-test .left)
 
 pub prefixes-at-spec : {M : Type 1} → statement M
 prefixes-at-spec =

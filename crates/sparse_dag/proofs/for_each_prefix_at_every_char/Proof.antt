@@ -14,18 +14,18 @@ use Rattle.sparse_dag.proofs.for_each_prefix_at_every_char.Statement.{s
 use Rattle.sparse_dag.proofs.for_each_prefix_at_every_char.Tie as tie
 
 abbrev Inv-loop : tie.InvT-loop
-Inv-loop root-children root-words keys children words shift used chars n starts₀ edge-ends₀ edge-records₀ room count₀ at₀ starts edge-ends
+Inv-loop roots slots shift used chars n starts₀ edge-ends₀ edge-records₀ room count₀ at₀ starts edge-ends
     edge-records count at =
-    Joining root-children root-words keys children words used chars n room starts₀ edge-ends₀ edge-records₀ starts edge-ends edge-records count at
+    Joining roots slots used chars n room starts₀ edge-ends₀ edge-records₀ starts edge-ends edge-records count at
 
 abbrev μ-loop : tie.MeasureT-loop
-μ-loop root-children root-words keys children words shift used chars n starts₀ edge-ends₀ edge-records₀ room count₀ at₀ starts edge-ends edge-records count at =
+μ-loop roots slots shift used chars n starts₀ edge-ends₀ edge-records₀ room count₀ at₀ starts edge-ends edge-records count at =
     n - at
 
 -- ---- the places of the code: the slices are lent, and a turn passes the loop's test and walks from its position
 
 abbrev lent : tie.After-slice-known3 Inv-loop μ-loop → tie.Start Inv-loop μ-loop
-lent c = c .before .before .before .before .before .before .before
+lent c = c .before .before .before .before .before .before
 
 abbrev turn : tie.After-prefixes-at Inv-loop μ-loop → tie.In-loop Inv-loop μ-loop
 turn c = c .before .before .before
@@ -35,16 +35,16 @@ walked c = c .before .before .before .before
 
 -- the edge slices after the walk from a position
 abbrev ends : tie.After-prefixes-at Inv-loop μ-loop → List ℕ
-ends c = c .prefixes-at .last .1 .1 .1 .1 .1 .1 .1 .1 .1 .1 .0
+ends c = c .prefixes-at .last .1 .1 .1 .1 .1 .1 .1 .0
 
 abbrev records : tie.After-prefixes-at Inv-loop μ-loop → List ℕ
-records c = c .prefixes-at .last .1 .1 .1 .1 .1 .1 .1 .1 .1 .1 .1 .0
+records c = c .prefixes-at .last .1 .1 .1 .1 .1 .1 .1 .1 .0
 
 slice-write-starts : tie.Need-slice-write-starts Inv-loop μ-loop
 slice-write-starts c = search needs
 
 loop-holds : tie.Need-loop-holds Inv-loop μ-loop
-loop-holds c = begins _ _ _ _ _ _ _ _ _ _ _ _ (getD-set-same (now (lent c .args .starts)) 0 _ 0 (omega (arith, lent c .pre .1 .1 .0)))
+loop-holds c = begins _ _ _ _ _ _ _ _ _ (getD-set-same (now (lent c .args .starts)) 0 _ 0 (omega (arith, lent c .pre .1 .0)))
 
 starts-long : (c : tie.At-loop Inv-loop μ-loop) → length (c .loop .starts) ≡ length (now (lent (c .before) .args .starts))
 starts-long c = c .loop .inv .starts-long ∙ simp length-set
@@ -53,19 +53,16 @@ prefixes-at-requires : tie.Need-prefixes-at-requires Inv-loop μ-loop
 prefixes-at-requires c κs =
     let loop = c .before .before .before in
     let pre = lent (loop .before) .pre in
-    let block = pre .1 .1 .0 in
-    let area = pre .1 .1 .1 in (
+    let block = pre .1 .0 in
+    let area = pre .1 .1 in (
       pre .0,
       (
-        pre .1 .0,
+        (c .before .before .loop-test .taken, block .0, block .1, block .3),
         (
-          (c .before .before .loop-test .taken, block .0, block .1, block .3),
-          (
-            loop .loop .inv .within,
-            omega (arith, loop .loop .inv .ends-long, area),
-            omega (arith, loop .loop .inv .records-long, area),
-            area .2,
-          ),
+          loop .loop .inv .within,
+          omega (arith, loop .loop .inv .ends-long, area),
+          omega (arith, loop .loop .inv .records-long, area),
+          area .2,
         ),
       ),
     )
@@ -90,7 +87,7 @@ returns c =
     let walk = walked (c .before .before) in
     let loop = turn walk .before in
     λ b trie in-use known.
-    ends-full (loop .loop .inv) (lent (loop .before) .pre .1 .1 .0 .0) (walk .prefixes-at .result) (ends walk) (records walk) (turn walk .loop-test .taken)
+    ends-full (loop .loop .inv) (lent (loop .before) .pre .1 .0 .0) (walk .prefixes-at .result) (ends walk) (records walk) (turn walk .loop-test .taken)
     (walk .prefixes-at .ensures .0) (c .enum-told .given .1) b trie in-use
 
 enum-told-2 : tie.Need-enum-told-2 Inv-loop μ-loop
@@ -110,7 +107,7 @@ returns-2 c =
     let walk = walked (c .before .before) in
     let loop = turn walk .before in
     λ b trie in-use known.
-    ends-damaged (loop .loop .inv) (lent (loop .before) .pre .1 .1 .0 .0) (walk .prefixes-at .result) (ends walk) (records walk) (turn walk .loop-test .taken)
+    ends-damaged (loop .loop .inv) (lent (loop .before) .pre .1 .0 .0) (walk .prefixes-at .result) (ends walk) (records walk) (turn walk .loop-test .taken)
     (walk .prefixes-at .ensures .0) (c .enum-told2 .given .1) b trie in-use
 
 add-at : tie.Need-add-at Inv-loop μ-loop
@@ -122,7 +119,7 @@ mul-starts c = search needs
 slice-write-starts-2 : tie.Need-slice-write-starts-2 Inv-loop μ-loop
 slice-write-starts-2 c =
     let loop = turn (walked (c .before .before .before)) .before in
-    omega (arith, starts-long loop, lent (loop .before) .pre .1 .1 .0)
+    omega (arith, starts-long loop, lent (loop .before) .pre .1 .0)
 
 loop-less : tie.Need-loop-less Inv-loop μ-loop
 loop-less c = search needs
@@ -131,12 +128,12 @@ loop-again : tie.Need-loop-again Inv-loop μ-loop
 loop-again c =
     let walk = walked (c .before .before .before) in
     let loop = turn walk .before in
-    let block = lent (loop .before) .pre .1 .1 .0 in
+    let block = lent (loop .before) .pre .1 .0 in
     goes-on (loop .loop .inv) (block .0) (walk .prefixes-at .result) (ends walk) (records walk) (turn walk .loop-test .taken)
     (walk .prefixes-at .ensures .0) (c .before .taken .given .1)
     (omega (arith, starts-long loop, block))
     (walk .prefixes-at .ensures .1 .0) (walk .prefixes-at .ensures .1 .1)
-    (walk .prefixes-at .kept .1 .1 .1 .1 .1 .1 .1 .1 .1 .1 .0) (walk .prefixes-at .kept .1 .1 .1 .1 .1 .1 .1 .1 .1 .1 .1 .0)
+    (walk .prefixes-at .kept .1 .1 .1 .1 .1 .1 .1 .0) (walk .prefixes-at .kept .1 .1 .1 .1 .1 .1 .1 .1 .0)
 
 same-length-7 : tie.Need-same-length-7 Inv-loop μ-loop
 same-length-7 c = starts-long (c .before)
@@ -151,7 +148,7 @@ returns-3 : tie.Need-returns-3 Inv-loop μ-loop
 returns-3 c =
     let loop = c .before in
     let pre = lent (loop .before) .pre in
-    ends-here (loop .loop .inv) (pre .1 .1 .0 .0) (c .loop-test .left) (pre .1 .1 .1 .0) (pre .1 .1 .1 .1)
+    ends-here (loop .loop .inv) (pre .1 .0 .0) (c .loop-test .left) (pre .1 .1 .0) (pre .1 .1 .1)
 
 pub for-each-prefix-at-every-char-spec : {M : Type 1} → statement M
 for-each-prefix-at-every-char-spec =

@@ -27,8 +27,7 @@ abbrev after-write-head : tie.After-number-of2 → tie.After-write-head
 after-write-head c = c .before .before .before
 
 abbrev after-add-word : tie.After-number-of2 → tie.After-add-word
-after-add-word c =
-    c .before .before .before .before .before .before .before .before .before .before .before .before .before .before .before .before .before .before
+after-add-word c = c .before .before .before .before .before .before .before .before .before .before .before .before .before .before
 
 same-length : tie.Need-same-length
 same-length c = after-write-head c .write-head .kept .0
@@ -45,21 +44,10 @@ same-length-4 c = after-add-word c .add-word .kept .1 .1 .1 .0
 same-length-5 : tie.Need-same-length-5
 same-length-5 c = after-add-word c .add-word .kept .1 .1 .1 .1 .0
 
-same-length-6 : tie.Need-same-length-6
-same-length-6 c = after-add-word c .add-word .kept .1 .1 .1 .1 .1 .0
-
-same-length-7 : tie.Need-same-length-7
-same-length-7 c = after-add-word c .add-word .kept .1 .1 .1 .1 .1 .1 .0
-
-same-length-8 : tie.Need-same-length-8
-same-length-8 c = after-add-word c .add-word .kept .1 .1 .1 .1 .1 .1 .1 .0
-
 returns-2 : tie.Need-returns-2
 returns-2 c =
-    let called =
-    c .before .before .before .before .before .before .before .before .before .before .before .before .before .before .before .before .before
-    .before in
-    let read = called .before .before .before .before .before .before .before .before in
+    let called = c .before .before .before .before .before .before .before .before .before .before .before .before .before .before in
+    let read = called .before .before .before .before .before in
     added-by _ _ _ _ (read .before .before .if1 .left) _ (read .read-head .ensures) _ _ _ (called .add-word .ensures .0) _ (c .number-of2 .ensures) _
     (c .before .before .before .write-head .ensures)
 
@@ -78,7 +66,4 @@ tongsvale-add-spec =
     same-length-3
     same-length-4
     same-length-5
-    same-length-6
-    same-length-7
-    same-length-8
     returns-2)

@@ -13,7 +13,7 @@ refused-requires c κs = search needs
 
 returns : tie.Need-returns
 returns c =
-    let args = c .before .before .before .before .before .before .before .before .before .before .before .before .args in (
+    let args = c .before .before .before .before .before .before .before .before .before .before .before .args in (
       cut-all-refused _ _ _ _ _ _ (c .refused .ensures .0) (c .refused .ensures .1) (workOf (args .chars .now) (args .offsets .now)) _ _
           (c .before .if1 .taken),
       λ none. (refl, refl),
@@ -33,25 +33,24 @@ abbrev after-cut-all : tie.After-returned → tie.After-cut-all
 after-cut-all c = c .before .before .before .before .before .before .before
 
 same-length : tie.Need-same-length
-same-length c = after-cut-all c .cut-all .kept .1 .1 .1 .1 .1 .1 .1 .1 .1 .0
+same-length c = after-cut-all c .cut-all .kept .1 .1 .1 .1 .1 .1 .0
 
 same-length-2 : tie.Need-same-length-2
-same-length-2 c = after-cut-all c .cut-all .kept .1 .1 .1 .1 .1 .1 .1 .1 .1 .1 .0
+same-length-2 c = after-cut-all c .cut-all .kept .1 .1 .1 .1 .1 .1 .1 .0
 
 same-length-3 : tie.Need-same-length-3
-same-length-3 c = after-cut-all c .cut-all .kept .1 .1 .1 .1 .1 .1 .1 .1 .1 .1 .1 .0
+same-length-3 c = after-cut-all c .cut-all .kept .1 .1 .1 .1 .1 .1 .1 .1 .0
 
 returns-2 : tie.Need-returns-2
 returns-2 c =
     let called = c .before .before .before .before .before .before .before in
     let read = called .before .before .before .before in
     let four = read .before .if1 .left in
-    let args = read .before .before .before .before .before .before .before .before .before .before .before .before .args in (
+    let args = read .before .before .before .before .before .before .before .before .before .before .before .args in (
       cut-all-by _ _ _ _ four _ (read .read-head .ensures) _ _ _ _ (called .cut-all .ensures .0) _ _ (c .returned .ensures .0) (c .returned .ensures .1),
       λ none.
           called .cut-all .ensures .1
-          (not-begun (args .head .now) (trieOf (args .root-children .now) (args .root-words .now) (args .keys .now) (args .children .now)
-          (args .words .now)) (args .frequencies .now) (args .logarithms .now) four _ (read .read-head .ensures)
+          (not-begun (args .head .now) (trieOf (args .roots .now) (args .slots .now)) (args .records .now) (args .logarithms .now) four _ (read .read-head .ensures)
           (workOf (args .chars .now) (args .offsets .now)) (args .tokens .now) (args .sentence .now) none),
     )
 

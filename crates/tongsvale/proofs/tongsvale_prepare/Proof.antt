@@ -26,12 +26,11 @@ number-of-requires-2 : tie.Need-number-of-requires-2
 number-of-requires-2 c κs = search needs
 
 -- where the call has returned, which says how long the areas are
-abbrev after-prepare : tie.After-slice-known12 → tie.After-prepare
-after-prepare c =
-    c .before .before .before .before .before .before .before .before .before .before .before .before .before .before .before .before .before .before .before
+abbrev after-prepare : tie.After-slice-known10 → tie.After-prepare
+after-prepare c = c .before .before .before .before .before .before .before .before .before .before .before .before .before .before .before
 
 abbrev after-prepare-2 : tie.After-number-of2 → tie.After-prepare
-after-prepare-2 c = c .before .before .before .before .before .before .before .before .before .before .before .before .before .before .before .before
+after-prepare-2 c = c .before .before .before .before .before .before .before .before .before .before .before .before
 
 same-length : tie.Need-same-length
 same-length c = c .before .before .write-head .kept .0
@@ -48,48 +47,28 @@ same-length-4 c = after-prepare c .prepare .kept .1 .1 .0
 same-length-5 : tie.Need-same-length-5
 same-length-5 c = after-prepare c .prepare .kept .1 .1 .1 .0
 
-same-length-6 : tie.Need-same-length-6
-same-length-6 c = after-prepare c .prepare .kept .1 .1 .1 .1 .0
-
-same-length-7 : tie.Need-same-length-7
-same-length-7 c = after-prepare c .prepare .kept .1 .1 .1 .1 .1 .0
-
-same-length-8 : tie.Need-same-length-8
-same-length-8 c = after-prepare c .prepare .kept .1 .1 .1 .1 .1 .1 .0
-
 returns-2 : tie.Need-returns-2
 returns-2 c =
-    let called =
-    c .before .before .before .before .before .before .before .before .before .before .before .before .before .before .before .before .before
-    .before .before in
-    prepare-ready _ _ _ _ (called .before .before .before .before .before .before .before .before .if1 .left) _ _ _ _ (called .prepare .ensures .0) _
+    let called = c .before .before .before .before .before .before .before .before .before .before .before .before .before .before .before in
+    prepare-ready _ _ _ _ (called .before .before .before .before .before .if1 .left) _ _ _ _ (called .prepare .ensures .0) _
     (c .before .before .before .before .before .value .given .1) _ (c .before .before .write-head .ensures)
 
+same-length-6 : tie.Need-same-length-6
+same-length-6 c = after-prepare-2 c .prepare .kept .0
+
+same-length-7 : tie.Need-same-length-7
+same-length-7 c = after-prepare-2 c .prepare .kept .1 .0
+
+same-length-8 : tie.Need-same-length-8
+same-length-8 c = after-prepare-2 c .prepare .kept .1 .1 .0
+
 same-length-9 : tie.Need-same-length-9
-same-length-9 c = after-prepare-2 c .prepare .kept .0
-
-same-length-10 : tie.Need-same-length-10
-same-length-10 c = after-prepare-2 c .prepare .kept .1 .0
-
-same-length-11 : tie.Need-same-length-11
-same-length-11 c = after-prepare-2 c .prepare .kept .1 .1 .0
-
-same-length-12 : tie.Need-same-length-12
-same-length-12 c = after-prepare-2 c .prepare .kept .1 .1 .1 .0
-
-same-length-13 : tie.Need-same-length-13
-same-length-13 c = after-prepare-2 c .prepare .kept .1 .1 .1 .1 .0
-
-same-length-14 : tie.Need-same-length-14
-same-length-14 c = after-prepare-2 c .prepare .kept .1 .1 .1 .1 .1 .0
-
-same-length-15 : tie.Need-same-length-15
-same-length-15 c = after-prepare-2 c .prepare .kept .1 .1 .1 .1 .1 .1 .0
+same-length-9 c = after-prepare-2 c .prepare .kept .1 .1 .1 .0
 
 returns-3 : tie.Need-returns-3
 returns-3 c =
-    let called = c .before .before .before .before .before .before .before .before .before .before .before .before .before .before .before .before in
-    prepare-not _ _ _ _ (called .before .before .before .before .before .before .before .before .if1 .left) _ _ _ _ (called .prepare .ensures .0) _
+    let called = c .before .before .before .before .before .before .before .before .before .before .before .before in
+    prepare-not _ _ _ _ (called .before .before .before .before .before .if1 .left) _ _ _ _ (called .prepare .ensures .0) _
     (c .before .before .outcome .given .1) _ (c .number-of2 .ensures)
 
 pub tongsvale-prepare-spec : {M : Type 1} → statement M
@@ -108,15 +87,9 @@ tongsvale-prepare-spec =
     same-length-3
     same-length-4
     same-length-5
+    returns-2
     same-length-6
     same-length-7
     same-length-8
-    returns-2
     same-length-9
-    same-length-10
-    same-length-11
-    same-length-12
-    same-length-13
-    same-length-14
-    same-length-15
     returns-3)

@@ -1,6 +1,6 @@
 -- `walk::from_root` meets its contract: each place is a case of `fromRoot` (`Places`). Assumes nothing.
-use borrow.Author.Needs.{needs}
 use Rattle.walk.proofs.Places.{root-tested, entry-not-root, slot-not-root}
+use borrow.Author.Needs.{needs}
 use Rattle.walk.proofs.from_root.Statement.{statement}
 use Rattle.walk.proofs.from_root.Tie as tie
 

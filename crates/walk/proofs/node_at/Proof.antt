@@ -1,6 +1,6 @@
 -- `walk::node_at` meets its contract: each place is a case of `nodeAt`, and its index lies inside the table (`Places`). Assumes nothing.
-use borrow.Author.Needs.{needs}
 use Rattle.walk.proofs.Places.{entry-inside, slot-inside, node-root, node-entry, node-slot}
+use borrow.Author.Needs.{needs}
 use Rattle.walk.proofs.node_at.Statement.{statement}
 use Rattle.walk.proofs.node_at.Tie as tie
 
@@ -10,20 +10,23 @@ enum-told c = search needs
 enum-known-place : tie.Need-enum-known-place
 enum-known-place c = search needs
 
-mul-result : tie.Need-mul-result
-mul-result c = search (needs, entry-inside)
+mul-child-of : tie.Need-mul-child-of
+mul-child-of c = search (needs, entry-inside)
 
-shared-slice-read-result : tie.Need-shared-slice-read-result
-shared-slice-read-result c = search entry-inside
+shared-slice-read-child-of : tie.Need-shared-slice-read-child-of
+shared-slice-read-child-of c = search entry-inside
+
+child-of-requires : tie.Need-child-of-requires
+child-of-requires c κs = search needs
 
 enum-known-place-2 : tie.Need-enum-known-place-2
 enum-known-place-2 c = search needs
 
-mul-result-2 : tie.Need-mul-result-2
-mul-result-2 c = search (needs, slot-inside)
+link-at-requires : tie.Need-link-at-requires
+link-at-requires c κs = search slot-inside
 
-shared-slice-read-result-2 : tie.Need-shared-slice-read-result-2
-shared-slice-read-result-2 c = search slot-inside
+child-of-requires-2 : tie.Need-child-of-requires-2
+child-of-requires-2 c κs = search needs
 
 returns : tie.Need-returns
 returns c = search node-root
@@ -40,11 +43,12 @@ node-at-spec =
     (tie.spec
     enum-told
     enum-known-place
-    mul-result
-    shared-slice-read-result
+    mul-child-of
+    shared-slice-read-child-of
+    child-of-requires
     enum-known-place-2
-    mul-result-2
-    shared-slice-read-result-2
+    link-at-requires
+    child-of-requires-2
     returns
     returns-2
     returns-3)

@@ -11,10 +11,7 @@ enum-known-place : tie.Need-enum-known-place
 enum-known-place c = search needs
 
 word-at-requires : tie.Need-word-at-requires
-word-at-requires c κs =
-    let walked = c .before .before .before in
-    let entry = walked .before .before .before .before .before in
-    reads-inside _ _ _ _ _ _ _ _ (entry .pre .0) (entry .pre .1 .0) (walked .walk .ensures) (c .before .place .given .1)
+word-at-requires c κs = search reads-inside
 
 enum-told : tie.Need-enum-told
 enum-told c = search needs

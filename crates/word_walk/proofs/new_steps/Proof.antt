@@ -16,7 +16,7 @@ enum-told c = search needs
 returns : tie.Need-returns
 returns c =
     let counted = c .before .before in
-    λ rootWords words keys children cs all. absurd
+    λ slots cs all. absurd
     (count-known _ _ (counted .before .before .before .pre) _ (counted .char-count .ensures) (c .enum-told .given .1))
 
 from-root-requires : tie.Need-from-root-requires
@@ -26,10 +26,10 @@ sub-slots : tie.Need-sub-slots
 sub-slots c = search count-positive
 
 returns-2 : tie.Need-returns-2
-returns-2 c = λ rootWords words keys children cs all. search new-from-root
+returns-2 c = λ slots cs all. search new-from-root
 
 returns-3 : tie.Need-returns-3
-returns-3 c = λ rootWords words keys children cs all. search new-below
+returns-3 c = λ slots cs all. search new-below
 
 pub new-steps-spec : {M : Type 1} → statement M
 new-steps-spec =

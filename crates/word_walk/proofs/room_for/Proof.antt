@@ -2,7 +2,7 @@
 -- it finds from the place is what the whole text finds from the root. Assumes nothing.
 use mathlib.Core.Path.{_≡_, ap}
 use mathlib.Core.Option.{IsSome}
-use Prim.Native.Nat.{_-_, _≤_}
+use Prim.Native.Nat.{_-_, _/_, _≤_}
 use native.Mathlib.Omega.{arith}
 use lib.ListN.{length}
 use borrow.Author.Needs.{needs}
@@ -11,25 +11,25 @@ use Rattle.trie.specs.declared.ParentRef.the-variants.{Root}
 use Rattle.utf8.specs.Text.{charsOf, charsFrom}
 use Rattle.utf8.proofs.Positions.{inside, from-start, value-below, still-chars}
 use Rattle.walk.specs.Walk.{Inside, roomFrom, roomOf}
-use Rattle.walk.proofs.Places.{starts-inside, word-inside, leads-open}
+use Rattle.walk.proofs.Places.{starts-inside, leads-open}
 use Rattle.walk.proofs.Characters.{chars-start, begins-with}
 use Rattle.word_walk.proofs.Rooms.{room-next, room-missing, room-damaged, room-whole}
 use Rattle.word_walk.proofs.room_for.Statement.{statement}
 use Rattle.word_walk.proofs.room_for.Tie as tie
 
 abbrev Inv-loop : tie.InvT-loop
-Inv-loop root-children root-words keys children words shift used s at₀ place₀ at place =
+Inv-loop roots slots shift used s at₀ place₀ at place =
     (at ≤ length s)
-    × Inside (length root-children) (length keys) place
+    × Inside (length roots) (length slots / 2) place
     × IsSome (charsFrom s at)
-    × (roomFrom used (trieOf root-children root-words keys children words) place (charsFrom s at)
-    ≡ roomOf used (trieOf root-children root-words keys children words) (charsOf s))
+    × (roomFrom used (trieOf roots slots) place (charsFrom s at)
+    ≡ roomOf used (trieOf roots slots) (charsOf s))
 
 abbrev μ-loop : tie.MeasureT-loop
-μ-loop root-children root-words keys children words shift used s at₀ place₀ at place = length s - at
+μ-loop roots slots shift used s at₀ place₀ at place = length s - at
 
 loop-holds : tie.Need-loop-holds Inv-loop μ-loop
-loop-holds c = (omega arith, starts-inside _ _, chars-start _ (c .before .before .before .before .pre .1 .1 .1), ap (roomFrom _ _ Root) (from-start _))
+loop-holds c = (omega arith, starts-inside _ _, search chars-start, ap (roomFrom _ _ Root) (from-start _))
 
 next-char-requires : tie.Need-next-char-requires Inv-loop μ-loop
 next-char-requires c κs = search needs
@@ -48,10 +48,9 @@ loop-less c = omega (arith, inside _ _ _ _ _ (c .before .before .before .before 
 
 loop-again : tie.Need-loop-again Inv-loop μ-loop
 loop-again c =
-    let stepped = c .before .before .before .before in
-    let entry = stepped .before .before .before .before .before .before .before .before in (
+    let stepped = c .before .before .before .before in (
       omega (arith, inside _ _ _ _ _ (stepped .before .next-char .ensures)),
-      leads-open _ _ _ (entry .pre .1 .0) _ _ _ _ (c .before .before .child .given .1) (stepped .open-step .ensures),
+      search leads-open,
       search still-chars,
       search room-next,
     )
@@ -81,7 +80,7 @@ returns-2 : tie.Need-returns-2 Inv-loop μ-loop
 returns-2 c = search room-damaged
 
 word-at-requires : tie.Need-word-at-requires Inv-loop μ-loop
-word-at-requires c κs = search (word-inside, c .before .before .before .before .before .before .pre)
+word-at-requires c κs = search needs
 
 returns-3 : tie.Need-returns-3 Inv-loop μ-loop
 returns-3 c = search room-whole

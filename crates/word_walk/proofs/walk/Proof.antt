@@ -1,38 +1,38 @@
 -- `word_walk::walk` meets its contract. The loop's invariant: the place is one of the tables, the text from the position on is well formed, and its steps
 -- from the place lead where those of the whole text lead from the root. Assumes nothing.
-use mathlib.Core.Path.{ap}
+use mathlib.Core.Path.{_≡_, ap}
 use mathlib.Core.Option.{IsSome}
-use Prim.Native.Nat.{_-_, _≤_}
+use Prim.Native.Nat.{_-_, _/_, _≤_}
 use native.Mathlib.Omega.{arith}
 use lib.ListN.{length}
 use borrow.Author.Needs.{needs}
+use Rattle.trie.specs.Trie.{trieOf}
 use Rattle.trie.specs.declared.ParentRef.the-variants.{Root}
 use Rattle.utf8.specs.Text.{charsOf, charsFrom}
 use Rattle.utf8.proofs.Positions.{inside, from-start, value-below, still-chars}
 use Rattle.walk.specs.Walk.{Inside, walkFrom}
 use Rattle.walk.proofs.Places.{starts-inside, leads-tested}
 use Rattle.walk.proofs.Characters.{chars-start}
-use Rattle.word_walk.proofs.Lookups.{SameWalk, walk-next, walk-nothing, walk-damaged, walk-end}
+use Rattle.word_walk.proofs.Lookups.{walk-next, walk-nothing, walk-damaged, walk-end}
 use Rattle.word_walk.proofs.walk.Statement.{statement}
 use Rattle.word_walk.proofs.walk.Tie as tie
 
 abbrev Inv-loop : tie.InvT-loop
-Inv-loop root-children keys children shift s at₀ place₀ at place =
+Inv-loop roots slots shift s at₀ place₀ at place =
     (at ≤ length s)
-    × Inside (length root-children) (length keys) place
+    × Inside (length roots) (length slots / 2) place
     × IsSome (charsFrom s at)
-    × SameWalk root-children keys children place (charsFrom s at) (charsOf s)
+    × (walkFrom (trieOf roots slots) place (charsFrom s at) ≡ walkFrom (trieOf roots slots) Root (charsOf s))
 
 abbrev μ-loop : tie.MeasureT-loop
-μ-loop root-children keys children shift s at₀ place₀ at place = length s - at
+μ-loop roots slots shift s at₀ place₀ at place = length s - at
 
 loop-holds : tie.Need-loop-holds Inv-loop μ-loop
 loop-holds c = (
   omega arith,
   starts-inside _ _,
-  chars-start _ (c .before .before .before .before .pre .1 .1),
-  λ rootWords words.
-      ap (walkFrom _ Root) (from-start _),
+  search chars-start,
+  ap (walkFrom _ Root) (from-start _),
 )
 
 next-char-requires : tie.Need-next-char-requires Inv-loop μ-loop
@@ -52,10 +52,9 @@ loop-less c = omega (arith, inside _ _ _ _ _ (c .before .before .before .before 
 
 loop-again : tie.Need-loop-again Inv-loop μ-loop
 loop-again c =
-    let stepped = c .before .before .before .before in
-    let entry = stepped .before .before .before .before .before .before .before .before in (
+    let stepped = c .before .before .before .before in (
       omega (arith, inside _ _ _ _ _ (stepped .before .next-char .ensures)),
-      leads-tested _ _ _ (entry .pre .0 .1) _ _ _ _ (c .before .before .child .given .1) (stepped .tested-step .ensures),
+      search leads-tested,
       search still-chars,
       search walk-next,
     )

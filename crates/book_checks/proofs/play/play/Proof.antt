@@ -9,14 +9,12 @@ use Rattle.book_checks.proofs.play.play.Statement.{statement}
 use Rattle.book_checks.proofs.play.play.Tie as tie
 
 abbrev Inv-loop : tie.InvT-loop
-Inv-loop root-children₀ root-words₀ keys₀ children₀ words₀ frequencies₀ logarithms₀ script state₀ at₀ root-children root-words keys children words
-    frequencies logarithms state at = (length root-children ≡ length root-children₀) × (length root-words ≡ length root-words₀)
-    × (length keys ≡ length keys₀) × (length children ≡ length children₀) × (length words ≡ length words₀)
-    × (length frequencies ≡ length frequencies₀) × (length logarithms ≡ length logarithms₀)
+Inv-loop roots₀ slots₀ records₀ logarithms₀ script state₀ at₀ roots slots records logarithms state at =
+    (length roots ≡ length roots₀) × (length slots ≡ length slots₀) × (length records ≡ length records₀)
+    × (length logarithms ≡ length logarithms₀)
 
 abbrev μ-loop : tie.MeasureT-loop
-μ-loop root-children₀ root-words₀ keys₀ children₀ words₀ frequencies₀ logarithms₀ script state₀ at₀ root-children root-words keys children words
-    frequencies logarithms state at = length script - at
+μ-loop roots₀ slots₀ records₀ logarithms₀ script state₀ at₀ roots slots records logarithms state at = length script - at
 
 start-requires : tie.Need-start-requires Inv-loop μ-loop
 start-requires c κs = search needs
@@ -60,15 +58,6 @@ same-length-3 c = search needs
 same-length-4 : tie.Need-same-length-4 Inv-loop μ-loop
 same-length-4 c = search needs
 
-same-length-5 : tie.Need-same-length-5 Inv-loop μ-loop
-same-length-5 c = search needs
-
-same-length-6 : tie.Need-same-length-6 Inv-loop μ-loop
-same-length-6 c = search needs
-
-same-length-7 : tie.Need-same-length-7 Inv-loop μ-loop
-same-length-7 c = search needs
-
 returns : tie.Need-returns Inv-loop μ-loop
 returns c = search needs
 
@@ -92,7 +81,4 @@ play-spec =
     same-length-2
     same-length-3
     same-length-4
-    same-length-5
-    same-length-6
-    same-length-7
     returns)

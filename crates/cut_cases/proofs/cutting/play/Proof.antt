@@ -7,11 +7,11 @@ use Rattle.cut_cases.proofs.cutting.play.Statement.{statement}
 use Rattle.cut_cases.proofs.cutting.play.Tie as tie
 
 abbrev Inv-loop : tie.InvT-loop
-Inv-loop root-children root-words keys children words frequencies logarithms cuts head₀ at₀ head at =
+Inv-loop roots slots records logarithms cuts head₀ at₀ head at =
     Unit {0}
 
 abbrev μ-loop : tie.MeasureT-loop
-μ-loop root-children root-words keys children words frequencies logarithms cuts head₀ at₀ head at =
+μ-loop roots slots records logarithms cuts head₀ at₀ head at =
     length cuts - at
 
 loop-holds : tie.Need-loop-holds Inv-loop μ-loop

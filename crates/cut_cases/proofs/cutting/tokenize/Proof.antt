@@ -114,8 +114,8 @@ array-borrow-prefix-end-area c = search needs
 slice-aggregate-tokenize-in-5 : tie.Need-slice-aggregate-tokenize-in-5
 slice-aggregate-tokenize-in-5 c = simp length-take (omega arith)
 
-array-borrow-prefix-record-area : tie.Need-array-borrow-prefix-record-area
-array-borrow-prefix-record-area c = search needs
+array-borrow-prefix-route-record-area : tie.Need-array-borrow-prefix-route-record-area
+array-borrow-prefix-route-record-area c = search needs
 
 slice-aggregate-tokenize-in-6 : tie.Need-slice-aggregate-tokenize-in-6
 slice-aggregate-tokenize-in-6 c = simp length-take (omega arith)
@@ -184,7 +184,7 @@ tokenize-spec =
     slice-aggregate-tokenize-in-4
     array-borrow-prefix-end-area
     slice-aggregate-tokenize-in-5
-    array-borrow-prefix-record-area
+    array-borrow-prefix-route-record-area
     slice-aggregate-tokenize-in-6
     array-borrow-prefix-edge-end-area
     slice-aggregate-tokenize-in-7

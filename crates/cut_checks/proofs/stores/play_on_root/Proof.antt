@@ -1,4 +1,4 @@
--- `cut_checks::stores::play_on_root` is safe and ends: a store keeps the areas' lengths, and the measure is what is left of the script.
+-- `cut_checks::stores::play_on_root` is safe and ends: a store keeps the area's length, and the measure is what is left of the script.
 -- Assumes nothing.
 use mathlib.Core.Path.{_≡_}
 use Prim.Native.Nat.{_-_}
@@ -8,11 +8,10 @@ use Rattle.cut_checks.proofs.stores.play_on_root.Statement.{statement}
 use Rattle.cut_checks.proofs.stores.play_on_root.Tie as tie
 
 abbrev Inv-loop : tie.InvT-loop
-Inv-loop root-children₀ root-words₀ stores at₀ root-children root-words at =
-    (length root-children ≡ length root-children₀) × (length root-words ≡ length root-words₀)
+Inv-loop roots₀ stores at₀ roots at = length roots ≡ length roots₀
 
 abbrev μ-loop : tie.MeasureT-loop
-μ-loop root-children₀ root-words₀ stores at₀ root-children root-words at = length stores - at
+μ-loop roots₀ stores at₀ roots at = length stores - at
 
 loop-holds : tie.Need-loop-holds Inv-loop μ-loop
 loop-holds c = search needs
@@ -44,9 +43,6 @@ loop-again c = search needs
 same-length : tie.Need-same-length Inv-loop μ-loop
 same-length c = search needs
 
-same-length-2 : tie.Need-same-length-2 Inv-loop μ-loop
-same-length-2 c = search needs
-
 returns : tie.Need-returns Inv-loop μ-loop
 returns c = search needs
 
@@ -66,5 +62,4 @@ play-on-root-spec =
     loop-less
     loop-again
     same-length
-    same-length-2
     returns)

@@ -1,4 +1,4 @@
--- `cut_checks::stores::play_on_slots` is safe and ends: a store keeps the areas' lengths, and the measure is what is left of the script.
+-- `cut_checks::stores::play_on_slots` is safe and ends: a store keeps the area's length, and the measure is what is left of the script.
 -- Assumes nothing.
 use mathlib.Core.Path.{_≡_}
 use Prim.Native.Nat.{_-_}
@@ -8,11 +8,10 @@ use Rattle.cut_checks.proofs.stores.play_on_slots.Statement.{statement}
 use Rattle.cut_checks.proofs.stores.play_on_slots.Tie as tie
 
 abbrev Inv-loop : tie.InvT-loop
-Inv-loop keys₀ children₀ words₀ stores at₀ keys children words at =
-    (length keys ≡ length keys₀) × (length children ≡ length children₀) × (length words ≡ length words₀)
+Inv-loop slots₀ stores at₀ slots at = length slots ≡ length slots₀
 
 abbrev μ-loop : tie.MeasureT-loop
-μ-loop keys₀ children₀ words₀ stores at₀ keys children words at = length stores - at
+μ-loop slots₀ stores at₀ slots at = length stores - at
 
 loop-holds : tie.Need-loop-holds Inv-loop μ-loop
 loop-holds c = search needs
@@ -44,12 +43,6 @@ loop-again c = search needs
 same-length : tie.Need-same-length Inv-loop μ-loop
 same-length c = search needs
 
-same-length-2 : tie.Need-same-length-2 Inv-loop μ-loop
-same-length-2 c = search needs
-
-same-length-3 : tie.Need-same-length-3 Inv-loop μ-loop
-same-length-3 c = search needs
-
 returns : tie.Need-returns Inv-loop μ-loop
 returns c = search needs
 
@@ -69,6 +62,4 @@ play-on-slots-spec =
     loop-less
     loop-again
     same-length
-    same-length-2
-    same-length-3
     returns)

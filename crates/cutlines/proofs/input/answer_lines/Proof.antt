@@ -10,16 +10,31 @@ use Rattle.cutlines.proofs.input.answer_lines.Statement.{statement}
 use Rattle.cutlines.proofs.input.answer_lines.Tie as tie
 
 abbrev Inv-loop : tie.InvT-loop
-Inv-loop root-children₀ root-words₀ keys₀ children₀ words₀ frequencies₀ logarithms₀ input line₀ had out₀ end₀ head₀ kept₀ at₀ root-children root-words
-    keys children words frequencies logarithms line out end head kept at =
-    (length root-children ≡ length root-children₀) × (length root-words ≡ length root-words₀) × (length keys ≡ length keys₀)
-    × (length children ≡ length children₀) × (length words ≡ length words₀) × (length frequencies ≡ length frequencies₀)
-    × (length logarithms ≡ length logarithms₀) × (length line ≡ length line₀)
+Inv-loop roots₀ slots₀ records₀ logarithms₀ input line₀ had out₀ end₀ head₀ kept₀ at₀ roots slots records logarithms line out end head kept at =
+    (length roots ≡ length roots₀) × (length slots ≡ length slots₀) × (length records ≡ length records₀) × (length logarithms ≡ length logarithms₀)
+    × (length line ≡ length line₀)
     × (length out ≡ 65536) × (end ≤ 65536) × (kept ≤ mostKept)
 
 abbrev μ-loop : tie.MeasureT-loop
-μ-loop root-children₀ root-words₀ keys₀ children₀ words₀ frequencies₀ logarithms₀ input line₀ had out₀ end₀ head₀ kept₀ at₀ root-children root-words
-    keys children words frequencies logarithms line out end head kept at = length input - at
+μ-loop roots₀ slots₀ records₀ logarithms₀ input line₀ had out₀ end₀ head₀ kept₀ at₀ roots slots records logarithms line out end head kept at =
+    length input - at
+
+-- ---- the places of the code: a turn begins, a line is taken, there is a place for its answer, it is answered
+
+abbrev turn : tie.After-take-line Inv-loop μ-loop → tie.At-loop Inv-loop μ-loop
+turn c = c .before .before .before
+
+abbrev taken : tie.After-next-place Inv-loop μ-loop → tie.After-take-line Inv-loop μ-loop
+taken c = c .before .before .before .before .before
+
+abbrev placed : tie.After-answer-line-arg5 Inv-loop μ-loop → tie.After-next-place Inv-loop μ-loop
+placed c = c .before .before .before .before .before .before .before
+
+abbrev answered : tie.After-head Inv-loop μ-loop → tie.After-answer-line Inv-loop μ-loop
+answered c = c .before .before .before .before .before .before .before .before .before .before
+
+abbrev next : tie.After-answer-line Inv-loop μ-loop → tie.After-next-place Inv-loop μ-loop
+next c = placed (c .before .before)
 
 loop-holds : tie.Need-loop-holds Inv-loop μ-loop
 loop-holds c = search needs
@@ -33,33 +48,24 @@ slice-aggregate-next-place c = search needs
 next-place-requires : tie.Need-next-place-requires Inv-loop μ-loop
 next-place-requires c κs = search needs
 
--- the turn in which there is no room for an answer: how long the areas are
-abbrev turn : tie.Then2 Inv-loop μ-loop → tie.At-loop Inv-loop μ-loop
-turn c = c .before .before .before .before .before .before .before .before .before .before
+-- where there is no room for an answer: how long the areas are
+abbrev stopped : tie.Then2 Inv-loop μ-loop → tie.After-take-line Inv-loop μ-loop
+stopped c = taken (c .before .before)
 
 same-length : tie.Need-same-length Inv-loop μ-loop
-same-length c = turn c .loop .inv .0
+same-length c = turn (stopped c) .loop .inv .0
 
 same-length-2 : tie.Need-same-length-2 Inv-loop μ-loop
-same-length-2 c = turn c .loop .inv .1
+same-length-2 c = turn (stopped c) .loop .inv .1
 
 same-length-3 : tie.Need-same-length-3 Inv-loop μ-loop
-same-length-3 c = turn c .loop .inv .2
+same-length-3 c = turn (stopped c) .loop .inv .2
 
 same-length-4 : tie.Need-same-length-4 Inv-loop μ-loop
-same-length-4 c = turn c .loop .inv .3
+same-length-4 c = turn (stopped c) .loop .inv .3
 
 same-length-5 : tie.Need-same-length-5 Inv-loop μ-loop
-same-length-5 c = turn c .loop .inv .4
-
-same-length-6 : tie.Need-same-length-6 Inv-loop μ-loop
-same-length-6 c = turn c .loop .inv .5
-
-same-length-7 : tie.Need-same-length-7 Inv-loop μ-loop
-same-length-7 c = turn c .loop .inv .6
-
-same-length-8 : tie.Need-same-length-8 Inv-loop μ-loop
-same-length-8 c = c .before .before .before .before .before .before .before .take-line .kept .1 .1 .0 ∙ turn c .loop .inv .7
+same-length-5 c = stopped c .take-line .kept .1 .1 .0 ∙ turn (stopped c) .loop .inv .4
 
 returns : tie.Need-returns Inv-loop μ-loop
 returns c = search needs
@@ -69,8 +75,8 @@ slice-reshare-prefix-answer-line c = search needs
 
 slice-aggregate-answer-line : tie.Need-slice-aggregate-answer-line Inv-loop μ-loop
 slice-aggregate-answer-line c =
-    let take = c .before .before .before .before .before .before .before .before .before .before .before .before .before .before .before in
-    simp length-take (omega (arith, take .take-line .ensures .1, take .take-line .kept .1 .1 .0, take .before .before .before .loop .inv .7))
+    let take = taken (placed c) in
+    simp length-take (omega (arith, take .take-line .ensures .1, take .take-line .kept .1 .1 .0, turn take .loop .inv .4))
 
 slice-aggregate-answer-line-2 : tie.Need-slice-aggregate-answer-line-2 Inv-loop μ-loop
 slice-aggregate-answer-line-2 c = search needs
@@ -80,27 +86,23 @@ answer-line-requires c κs = search needs
 
 loop-less : tie.Need-loop-less Inv-loop μ-loop
 loop-less c =
-    let take =
-    c .before .before .before .before .before .before .before .before .before .before .before .before .before .before .before .before .before
-    .before .before .before .before .before .before .before .before .before .before .before .before .before .before in
+    let take = taken (next (answered c)) in
     omega (arith, take .take-line .ensures .1, take .before .before .loop-test .taken)
 
 loop-again : tie.Need-loop-again Inv-loop μ-loop
 loop-again c =
-    let answer = c .before .before .before .before .before .before .before .before .before .before .before .before .before .before in
-    let next = answer .before .before .before .before .before .before .before .before .before .before .before .before in
-    let take = next .before .before .before .before .before in
-    let at = take .before .before .before in (
-      answer .answer-line .kept .1 .0 ∙ at .loop .inv .0,
-      answer .answer-line .kept .1 .1 .0 ∙ at .loop .inv .1,
-      answer .answer-line .kept .1 .1 .1 .0 ∙ at .loop .inv .2,
-      answer .answer-line .kept .1 .1 .1 .1 .0 ∙ at .loop .inv .3,
-      answer .answer-line .kept .1 .1 .1 .1 .1 .0 ∙ at .loop .inv .4,
-      answer .answer-line .kept .1 .1 .1 .1 .1 .1 .0 ∙ at .loop .inv .5,
-      answer .answer-line .kept .1 .1 .1 .1 .1 .1 .1 .0 ∙ at .loop .inv .6,
-      take .take-line .kept .1 .1 .0 ∙ at .loop .inv .7,
-      answer .answer-line .kept .1 .1 .1 .1 .1 .1 .1 .1 .1 .0 ∙ at .loop .inv .8,
-      omega (arith, answer .answer-line .ensures .1, next .next-place .ensures, at .loop .inv .8),
+    let answer = answered c in
+    let kept = answer .answer-line .kept in
+    let place = next answer in
+    let take = taken place in
+    let at = turn take .loop .inv in (
+      kept .1 .0 ∙ at .0,
+      kept .1 .1 .0 ∙ at .1,
+      kept .1 .1 .1 .0 ∙ at .2,
+      kept .1 .1 .1 .1 .0 ∙ at .3,
+      take .take-line .kept .1 .1 .0 ∙ at .4,
+      kept .1 .1 .1 .1 .1 .1 .0 ∙ at .5,
+      omega (arith, answer .answer-line .ensures .1, place .next-place .ensures, at .5),
       omega arith,
     )
 
@@ -116,29 +118,20 @@ slice-aggregate-write-answers c = search needs
 write-answers-requires : tie.Need-write-answers-requires Inv-loop μ-loop
 write-answers-requires c κs = search needs
 
+same-length-6 : tie.Need-same-length-6 Inv-loop μ-loop
+same-length-6 c = c .before .before .before .loop .inv .0
+
+same-length-7 : tie.Need-same-length-7 Inv-loop μ-loop
+same-length-7 c = c .before .before .before .loop .inv .1
+
+same-length-8 : tie.Need-same-length-8 Inv-loop μ-loop
+same-length-8 c = c .before .before .before .loop .inv .2
+
 same-length-9 : tie.Need-same-length-9 Inv-loop μ-loop
-same-length-9 c = c .before .before .before .loop .inv .0
+same-length-9 c = c .before .before .before .loop .inv .3
 
 same-length-10 : tie.Need-same-length-10 Inv-loop μ-loop
-same-length-10 c = c .before .before .before .loop .inv .1
-
-same-length-11 : tie.Need-same-length-11 Inv-loop μ-loop
-same-length-11 c = c .before .before .before .loop .inv .2
-
-same-length-12 : tie.Need-same-length-12 Inv-loop μ-loop
-same-length-12 c = c .before .before .before .loop .inv .3
-
-same-length-13 : tie.Need-same-length-13 Inv-loop μ-loop
-same-length-13 c = c .before .before .before .loop .inv .4
-
-same-length-14 : tie.Need-same-length-14 Inv-loop μ-loop
-same-length-14 c = c .before .before .before .loop .inv .5
-
-same-length-15 : tie.Need-same-length-15 Inv-loop μ-loop
-same-length-15 c = c .before .before .before .loop .inv .6
-
-same-length-16 : tie.Need-same-length-16 Inv-loop μ-loop
-same-length-16 c = c .before .before .before .loop .inv .7
+same-length-10 c = c .before .before .before .loop .inv .4
 
 returns-2 : tie.Need-returns-2 Inv-loop μ-loop
 returns-2 c = search needs
@@ -158,9 +151,6 @@ answer-lines-spec =
     same-length-3
     same-length-4
     same-length-5
-    same-length-6
-    same-length-7
-    same-length-8
     returns
     slice-reshare-prefix-answer-line
     slice-aggregate-answer-line
@@ -172,12 +162,9 @@ answer-lines-spec =
     loop-again-2
     slice-aggregate-write-answers
     write-answers-requires
+    same-length-6
+    same-length-7
+    same-length-8
     same-length-9
     same-length-10
-    same-length-11
-    same-length-12
-    same-length-13
-    same-length-14
-    same-length-15
-    same-length-16
     returns-2)

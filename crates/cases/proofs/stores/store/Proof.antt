@@ -1,33 +1,30 @@
--- `cases::stores::store_u32` is safe and ends: a store keeps the area's length, and the measure is what is left of it.
+-- `cases::stores::store` is safe and ends: a store keeps the area's length, and the measure is what is left of it.
 -- Assumes nothing.
 use mathlib.Core.Path.{_≡_}
 use Prim.Native.Nat.{_-_}
 use native.Mathlib.Omega.{arith}
 use lib.ListN.{length, length-set}
 use borrow.Author.Needs.{needs}
-use Rattle.cases.proofs.stores.store_u32.Statement.{statement}
-use Rattle.cases.proofs.stores.store_u32.Tie as tie
+use Rattle.cases.proofs.stores.store.Statement.{statement}
+use Rattle.cases.proofs.stores.store.Tie as tie
 
 abbrev Inv-loop : tie.InvT-loop
-Inv-loop s₀ command value end i₀ s i = length s ≡ length s₀
+Inv-loop s₀ from end step part value i₀ s i = length s ≡ length s₀
 
 abbrev μ-loop : tie.MeasureT-loop
-μ-loop s₀ command value end i₀ s i = length s - i
-
-number-requires : tie.Need-number-requires Inv-loop μ-loop
-number-requires c κs = search needs
-
-cast-value : tie.Need-cast-value Inv-loop μ-loop
-cast-value c = search needs
-
-number-requires-2 : tie.Need-number-requires-2 Inv-loop μ-loop
-number-requires-2 c κs = search needs
-
-number-requires-3 : tie.Need-number-requires-3 Inv-loop μ-loop
-number-requires-3 c κs = search needs
+μ-loop s₀ from end step part value i₀ s i = length s - i
 
 loop-holds : tie.Need-loop-holds Inv-loop μ-loop
 loop-holds c = search needs
+
+mul-stored : tie.Need-mul-stored Inv-loop μ-loop
+mul-stored c = search needs
+
+slice-read-stored : tie.Need-slice-read-stored Inv-loop μ-loop
+slice-read-stored c = search needs
+
+stored-requires : tie.Need-stored-requires Inv-loop μ-loop
+stored-requires c κs = search needs
 
 mul-s : tie.Need-mul-s Inv-loop μ-loop
 mul-s c = search needs
@@ -56,17 +53,16 @@ same-length-2 c = search needs
 returns-2 : tie.Need-returns-2 Inv-loop μ-loop
 returns-2 c = search needs
 
-pub store-u32-spec : {M : Type 1} → statement M
-store-u32-spec =
+pub store-spec : {M : Type 1} → statement M
+store-spec =
     tie.close
     (tie.spec
     Inv-loop
     μ-loop
-    number-requires
-    cast-value
-    number-requires-2
-    number-requires-3
     loop-holds
+    mul-stored
+    slice-read-stored
+    stored-requires
     mul-s
     slice-write-s
     add-i
