@@ -11,18 +11,21 @@ use lib.Dec.{leb}
 use lib.Ieee.{Float}
 use lib.ListN.{length}
 use Rattle.utf8.specs.Text.{chars_of}
-use Rattle.trie.specs.Trie.{CharTrie}
+use Rattle.trie.specs.Trie.{CharTrie, trie_of}
 use Rattle.book.specs.declared.Decision.{Decision}
 use Rattle.book.specs.declared.Decision.TheVariants.{Refuse, Replace, Insert}
 use Rattle.book.specs.declared.Head.{Head}
 use Rattle.book.specs.declared.Outcome.{Outcome}
 use Rattle.book.specs.declared.Outcome.TheVariants.{Done, BadAreas, TooLong, BadFrequency}
-use Rattle.book.specs.Areas.{book_of}
+use Rattle.book.specs.Areas.{areas_allowed, book_of, book_in}
 use Rattle.book.specs.Returns.{Book, is_done, sized, longest_text, greatest_total, damaged_head}
 use Rattle.book.specs.Enter.{decide, AddAnswer, add_answer, add_refused, add_by, add_chars, add_of, enter}
+use Rattle.book.specs.Numbers.{added_returns, add_returns}
+use Rattle.book.proofs.Numbers.{added_in_numbers}
 use Rattle.lookup.specs.declared.WordTest.{WordTest}
 use Rattle.lookup.specs.declared.WordTest.TheVariants.{Refused, Empty, Word}
 use Rattle.lookup.specs.Tests.{tested_chars, tested_word}
+use Rattle.lookup.proofs.Lookups.{tested_lent}
 use Rattle.entry.specs.declared.Entered.{Entered}
 use Rattle.entry.specs.Texts.{EnterAnswer, enter_answer, enter_by, enter_text}
 use Rattle.entry.proofs.Bounds.{Promises, entering}
@@ -111,3 +114,16 @@ module _ (head : Head) (trie : CharTrie) (records : List ℕ) (l : List Float) (
     answered g trie₁ records₁ l₁ enters q =
         rw q (ap (λ (x : EnterAnswer). add_on x frequency) enters
         ∙ (rw (e, le-leb frequency greatest_total g) at (by_tests (book_of head trie records l) word frequency tested)))
+
+-- ---- a frequency over the limit, of the book as it is lent, and in numbers
+
+module _ (head : Head) (roots slots records : List ℕ) (l : List Float) (word : List ℕ) (frequency : ℕ) {t : WordTest}
+    (tested : t ≡ tested_word (areas_allowed (length roots) (length slots) (length records) (length l)) word) (e : t ≡ Word)
+    {r : Added} (q : r ≡ not_added head BadFrequency) where
+  pub frequent_refused : greatest_total < frequency
+      → add_answer r.outcome r.frequency (book_in r.head roots slots records l) ≡ add_of (book_in head roots slots records l) word frequency
+  frequent_refused g = too_frequent head (trie_of roots slots) records l word frequency (tested_lent head roots slots records l word tested) e g q
+
+  pub frequent_returned : greatest_total < frequency
+      → added_returns r.outcome r.frequency ≡ add_returns (book_in head roots slots records l) word frequency
+  frequent_returned g = (added_in_numbers (frequent_refused g)).1

@@ -2,9 +2,10 @@
 //!
 //! The Rust grows its tables. Here a book is four lent slices and a head by value, which goes in and comes back with the
 //! answer. The sizes of what is lent are tested, and nothing is required of the caller.
+#![tactic(auto)]
+
 ghost use Rattle.std.specs.Prelude.{◌≡◌};
-ghost use Rattle.trie.specs.Lent.{was};
-ghost use Rattle.book.specs.Areas.{book_lent, book_left};
+ghost use Rattle.book.specs.Areas.{book_in};
 ghost use Rattle.book.specs.Enter.{add_answer, add_of};
 ghost use Rattle.book.specs.Numbers.{added_returns, add_returns};
 ghost use Rattle.addition.specs.Answers.{not_added, added_by};
@@ -14,7 +15,7 @@ use entry::Entered;
 use lookup::WordTest;
 
 // What an addition answers.
-#[derive(Drop)]
+#[derive(Clone, Copy)]
 pub struct Added {
     pub outcome: Outcome,
     pub frequency: u64,
@@ -49,6 +50,7 @@ fn added_by(entered: Entered, frequency: u64) -> Added
 }
 
 // Adds a word with its frequency, or gives a word that is held the new frequency.
+#[tactic(auto, using(crate::proofs::Additions::frequent_refused, crate::proofs::Additions::frequent_returned))]
 pub fn add_word(
     head: Head,
     roots: &mut [u64],
@@ -59,10 +61,10 @@ pub fn add_word(
     frequency: u64,
 ) -> Added
     ensures logarithms_value { add_answer result.outcome result.frequency
-        (book_left result.head roots slots records logarithms)
-        ≡ add_of (book_lent head roots slots records logarithms) (was word) frequency }
+        (book_in result.head roots.new slots.new records.new logarithms.new)
+        ≡ add_of (book_in head roots.old slots.old records.old logarithms.old) word.now frequency }
     ensures frequency_value { added_returns result.outcome result.frequency
-        ≡ add_returns (book_lent head roots slots records logarithms) (was word) frequency }
+        ≡ add_returns (book_in head roots.old slots.old records.old logarithms.old) word.now frequency }
 {
     match lookup::test_word(
         roots.len(),

@@ -1,8 +1,9 @@
 //! What the program `cutlines` answers to a frame that leaves the book as it is, and to what is no frame (document 01, "Program
 //! `cutlines`"): the cut that the frame's kind asks for.
+#![tactic(auto)]
+
 ghost use Rattle.std.specs.Prelude.{◌≡◌, ◌+◌, ◌≤◌, length};
-ghost use Rattle.trie.specs.Lent.{was, became};
-ghost use Rattle.book.specs.Areas.{book_lent};
+ghost use Rattle.book.specs.Areas.{book_in};
 ghost use Rattle.printing.specs.Answers.{Put};
 ghost use Rattle.answers.specs.Answers.{longest_answer, answer_by};
 
@@ -23,8 +24,8 @@ pub fn put_answer(
     at: usize,
 ) -> usize
     requires { (at + longest_answer ≤ length out.old) × (kind ≡ Kind.Load → ⊥) }
-    ensures put { Put (was out) at (answer_by kind (book_lent head roots slots records logarithms)
-        (was text)).line (became out) result }
+    ensures put { Put out.old at (answer_by kind (book_in head roots.now slots.now records.now logarithms.now)
+        text.now).line out.new result }
     ensures upper_bound { result ≤ at + longest_answer }
 {
     match kind {

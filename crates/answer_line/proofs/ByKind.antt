@@ -1,28 +1,17 @@
 -- A line by its kind: a frame that is no load leaves the book as it is. Assumes nothing.
 use Prim.Native.Nat.{ℕ, ◌+◌, ◌-◌, ◌≤◌}
-use mathlib.Core.List.{List, [], ◌∷◌}
-use mathlib.Core.Logic.{⊎_elim}
+use mathlib.Core.List.{List}
 use mathlib.Core.Path.{◌≡◌, refl}
 use native.Mathlib.Omega.{arith}
 use lib.ListN.{length, take}
-use types.Run.{OneOf}
-use denote.Enum.Declared.{tag_of}
 use Rattle.book.specs.Returns.{Book}
 use Rattle.frames.specs.declared.Kind.{Kind}
 use Rattle.frames.specs.declared.Kind.TheVariants.{Load, Cut, CutAll, CutForSearch, NoFrame}
-use Rattle.frames.specs.contracts.Kind.{the_type}
 use Rattle.printing.specs.Answers.{Put}
 use Rattle.frames.specs.Frames.{longest, frame, frame_of}
 use Rattle.answers.specs.Answers.{answer_by, answer_of, Answered}
 
--- ---- the kind: what a test of it tells
-
-pub not_load : (kind : Kind) → OneOf (1 ∷ 2 ∷ 3 ∷ 4 ∷ []) (tag_of the_type kind) → kind ≡ Load → ⊥
-not_load Load h e = absurd (⊎_elim (λ d. omega arith) (λ h'. ⊎_elim (λ d. omega arith) (λ h''. ⊎_elim (λ d. omega arith) (λ d. omega arith) h'') h') h)
-not_load Cut h e = let z : ◌≡◌ {A = ℕ} 0 1 = cc in absurd (omega arith)
-not_load CutAll h e = let z : ◌≡◌ {A = ℕ} 0 1 = cc in absurd (omega arith)
-not_load CutForSearch h e = let z : ◌≡◌ {A = ℕ} 0 1 = cc in absurd (omega arith)
-not_load NoFrame h e = let z : ◌≡◌ {A = ℕ} 0 1 = cc in absurd (omega arith)
+-- ---- the kind
 
 -- the book stays
 stays : (kind : Kind) → (kind ≡ Load → ⊥) → (b : Book) (text : List ℕ) → b ≡ (answer_by kind b text).book

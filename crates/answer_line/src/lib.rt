@@ -2,9 +2,10 @@
 //! the book lent between.
 //!
 //! A frame asks for one of the public calls. The book serves one line after the other.
+#![tactic(auto)]
+
 ghost use Rattle.std.specs.Prelude.{◌+◌, ◌≤◌, length};
-ghost use Rattle.trie.specs.Lent.{was, became};
-ghost use Rattle.book.specs.Areas.{book_lent, book_left};
+ghost use Rattle.book.specs.Areas.{book_in};
 ghost use Rattle.answers.specs.Answers.{longest_answer, answer_of, Answered};
 
 use answers::Answer;
@@ -23,8 +24,8 @@ pub fn answer_line(
     at: usize,
 ) -> Answer
     requires { at + longest_answer ≤ length out.old }
-    ensures answered { Answered (answer_of (book_lent head roots slots records logarithms) (was line))
-        (was out) at (became out) result.end (book_left result.head roots slots records logarithms) }
+    ensures answered { Answered (answer_of (book_in head roots.old slots.old records.old logarithms.old) line.now)
+        out.old at out.new result.end (book_in result.head roots.new slots.new records.new logarithms.new) }
     ensures end_bound { result.end ≤ at + longest_answer }
 {
     let mut bytes = [0u8; frames::LONGEST];

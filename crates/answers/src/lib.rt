@@ -2,9 +2,10 @@
 //! line of bytes.
 //!
 //! The areas of a cut are made anew for each, in the lengths that document 01 names; the book is the caller's.
+#![tactic(auto)]
+
 ghost use Rattle.std.specs.Prelude.{◌≡◌, ◌+◌, ◌*◌, ◌≤◌, length};
-ghost use Rattle.trie.specs.Lent.{was, became};
-ghost use Rattle.book.specs.Areas.{book_lent, book_left};
+ghost use Rattle.book.specs.Areas.{book_in};
 ghost use Rattle.cuts.specs.Tokens.{token_width};
 ghost use Rattle.cuts.specs.Cuts.{cut_answer, tokenize_of, cut_all_of};
 ghost use Rattle.printing.specs.Answers.{Put};
@@ -30,7 +31,7 @@ const TOKENS: usize = PLACES * cuts::TOKEN_WIDTH;
 pub const LONGEST_ANSWER: usize = 7 + 4 * TOKENS;
 
 // What is answered to a line: the book's head after it, and where the answer ends.
-#[derive(Drop)]
+#[derive(Clone, Copy)]
 pub struct Answer {
     pub head: Head,
     pub end: usize,
@@ -49,7 +50,7 @@ fn numbers_of(count: usize) -> usize
 // Writes the line of what a cut answers.
 fn put_cut(cut: Cut, tokens: &[u32], out: &mut [u8], at: usize) -> usize
     requires { (length tokens.now ≡ places * token_width) × (at + longest_answer ≤ length out.old) }
-    ensures put { Put (was out) at (cut_line (cut_answer cut (was tokens))) (became out) result }
+    ensures put { Put out.old at (cut_line (cut_answer cut tokens.now)) out.new result }
     ensures upper_bound { result ≤ at + longest_answer }
 {
     let outcome = cut.outcome;
@@ -70,9 +71,9 @@ pub fn put_tokenize(
     at: usize,
 ) -> usize
     requires { at + longest_answer ≤ length out.old }
-    ensures put { Put (was out) at (cut_line (tokenize_of mode
-        (book_lent head roots slots records logarithms) work_length edge_length no_tokens (was sentence)))
-        (became out) result }
+    ensures put { Put out.old at (cut_line (tokenize_of mode
+        (book_in head roots.now slots.now records.now logarithms.now) work_length edge_length no_tokens sentence.now))
+        out.new result }
     ensures upper_bound { result ≤ at + longest_answer }
 {
     let mut chars = [0u32; WORK];
@@ -117,8 +118,8 @@ pub fn put_cut_all(
     at: usize,
 ) -> usize
     requires { at + longest_answer ≤ length out.old }
-    ensures put { Put (was out) at (cut_line (cut_all_of (book_lent head roots slots records logarithms)
-        work_length no_tokens (was sentence))) (became out) result }
+    ensures put { Put out.old at (cut_line (cut_all_of (book_in head roots.now slots.now records.now logarithms.now)
+        work_length no_tokens sentence.now)) out.new result }
     ensures upper_bound { result ≤ at + longest_answer }
 {
     let mut chars = [0u32; WORK];
@@ -150,8 +151,8 @@ pub fn put_load(
     at: usize,
 ) -> Answer
     requires { at + longest_answer ≤ length out.old }
-    ensures answered { Answered (answer_by Kind.Load (book_lent head roots slots records logarithms) (was text))
-        (was out) at (became out) result.end (book_left result.head roots slots records logarithms) }
+    ensures answered { Answered (answer_by Kind.Load (book_in head roots.old slots.old records.old logarithms.old) text.now)
+        out.old at out.new result.end (book_in result.head roots.new slots.new records.new logarithms.new) }
     ensures end_bound { result.end ≤ at + longest_answer }
 {
     let loaded = dict::load_dict(head, roots, slots, records, logarithms, text);

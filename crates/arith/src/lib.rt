@@ -1,6 +1,8 @@
 //! Wrapping products and single bits: the arithmetic under the trie's hashes, keys and child pointers (trie.rs). Rattle has neither
 //! `wrapping_mul` nor a type wider than 64 bits, so a product is taken by halves of 32 bits. A bit is read by a quotient and set by
 //! a sum.
+#![tactic(auto)]
+
 ghost use Rattle.std.specs.Prelude.{◌≡◌, ◌*◌, ◌%◌, ◌^◌, ◌<◌};
 ghost use Rattle.arith.specs.Bits.{has_bit, with_bit};
 

@@ -77,6 +77,7 @@ module _ (total : ℕ) (later : ℕ → Score) where
 
   best_no_worse_each : (best : Scored) (ws : List Word) (w : Word) → Memᴰ w ws → NoWorse (best_of total later best ws) (scored total later w)
   unfolding best_of
+  best_no_worse_each best [] w x' = elim x' [ ]
   best_no_worse_each best (v ∷ ws) w (Memᴰ.head e) =
       rw e (no_worse_trans _ _ _ (best_no_worse (better (scored total later v) best) ws) (better_no_worse (scored total later v) best).0)
   best_no_worse_each best (v ∷ ws) w (Memᴰ.tail m) = best_no_worse_each (better (scored total later v) best) ws w m

@@ -82,14 +82,14 @@ parted path other part same = let itself = subst (SmallerWherePart path) same pa
 
 -- with ends rising, a word is known by its end
 same_word_lem : (row : List Word) (v w : Word) → Rising row → Memᴰ v row → Memᴰ w row → v.end ≡ w.end → v ≡ w
-same_word_lem [] v w rising m n same = absurd (Memᴰ.not_nil m)
+same_word_lem [] v w rising m n same = absurd (Memᴰ.not-nil m)
 same_word_lem (u ∷ row) v w rising (Memᴰ.head e) (Memᴰ.head f) same = e ∙ sym f
 same_word_lem (u ∷ row) v w rising (Memᴰ.head e) (Memᴰ.tail n) same = absurd (omega (arith, rising.0 w n, ap (λ (x : Word). x.end) e))
 same_word_lem (u ∷ row) v w rising (Memᴰ.tail m) (Memᴰ.head f) same = absurd (omega (arith, rising.0 v m, ap (λ (x : Word). x.end) f))
 same_word_lem (u ∷ row) v w rising (Memᴰ.tail m) (Memᴰ.tail n) same = same_word_lem row v w rising.1 m n same
 
 steps_rise : (next : ℕ) (row : List Word) → Rising row → Rising (steps_at next row)
-steps_rise next [] rising = (λ other m. absurd (Memᴰ.not_nil m), tt)
+steps_rise next [] rising = (λ other m. absurd (Memᴰ.not-nil m), tt)
 steps_rise next (w ∷ ws) rising = rising
 
 same_step : (rows : List (List Word)) → ((k : ℕ) → Rising (get_or rows k [])) → (position : ℕ) (v w : Word)

@@ -2,9 +2,10 @@
 //!
 //! The two cuts differ in one call, what a token brings: itself, or in search its parts and the words in it too. So a block is cut
 //! by a mode, as the Rust's `cut_each` is by what it is told to emit.
+#![tactic(auto)]
+
 ghost use Rattle.std.specs.Prelude.{◌≡◌, ◌+◌, ◌≤◌, length, take};
-ghost use Rattle.trie.specs.Trie.{SlotTable};
-ghost use Rattle.trie.specs.Lent.{was, became, trie_lent};
+ghost use Rattle.trie.specs.Trie.{trie_of, SlotTable};
 ghost use Rattle.classes.specs.Blocks.{cut_class};
 ghost use Rattle.book.specs.Returns.{Book, longest_text, most_records};
 ghost use Rattle.cuts.specs.Slices.{block_of, Characters, Placed};
@@ -19,7 +20,7 @@ use prefixes::Prefixes;
 use runs::Run;
 
 // What a cut goes by beside slices: its mode, and of the book the shift of its slots, the records used, and L of its total.
-#[derive(Drop)]
+#[derive(Clone, Copy)]
 pub struct Plan {
     pub mode: TokenizeMode,
     pub shift: u32,
@@ -53,10 +54,10 @@ pub fn cut_block(
     requires work_fits { WorkFits run.chars chars.now offsets.now starts.old scores.old ends.old records.old
         × Characters run.chars chars.now × (base + run.chars ≤ longest_text) }
     requires room_in_bounds { (room ≤ length edge_ends.old) × (room ≤ length edge_records.old) × OneKind cut_class run.matched run.chars chars.now }
-    ensures { (b : Book) (place : Base) → Planned b (trie_lent roots slots) (was logarithms) plan
-        → Placed place base (take run.chars (was chars)) (was offsets)
-        → cut_answer result (became tokens) ≡ block_by plan.mode (vocabulary_of b) room place (block_of run.matched (take run.chars (was chars)))
-        (written count (was tokens)) }
+    ensures { (b : Book) (place : Base) → Planned b (trie_of roots.now slots.now) logarithms.now plan
+        → Placed place base (take run.chars chars.now) offsets.now
+        → cut_answer result tokens.new ≡ block_by plan.mode (vocabulary_of b) room place (block_of run.matched (take run.chars chars.now))
+        (written count tokens.old) }
 {
     let n = run.chars;
     if !run.matched {

@@ -1,8 +1,9 @@
 //! The blocks of a sentence (lib.rs, the loop of `cut_each`): each is recorded and cut, one after the other.
+#![tactic(auto)]
+
 ghost use Rattle.std.specs.Prelude.{◌≡◌, ◌≤◌, length};
 ghost use Rattle.std.proofs.Math.Option.{IsSome};
-ghost use Rattle.trie.specs.Trie.{SlotTable};
-ghost use Rattle.trie.specs.Lent.{was, became, trie_lent};
+ghost use Rattle.trie.specs.Trie.{trie_of, SlotTable};
 ghost use Rattle.utf8.specs.Text.{chars_of};
 ghost use Rattle.book.specs.Returns.{Book, longest_text, most_records};
 ghost use Rattle.classes.specs.Blocks.{cut_class};
@@ -40,9 +41,9 @@ pub fn cut_blocks(
     requires sentence_len_bound { (length sentence.now ≤ longest_text) × IsSome (chars_of sentence.now) }
     requires work_fits { WorkFits (length (text_from sentence.now 0)) chars.old offsets.old starts.old scores.old ends.old records.old }
     requires room_in_bounds { (room ≤ length edge_ends.old) × (room ≤ length edge_records.old) }
-    ensures { (b : Book) → Planned b (trie_lent roots slots) (was logarithms) plan
-        → cut_answer result (became tokens) ≡ cut_blocks (block_by plan.mode (vocabulary_of b) room) start (blocks_of cut_class (text_from (was sentence) 0))
-        (written 0 (was tokens)) }
+    ensures { (b : Book) → Planned b (trie_of roots.now slots.now) logarithms.now plan
+        → cut_answer result tokens.new ≡ cut_blocks (block_by plan.mode (vocabulary_of b) room) start (blocks_of cut_class (text_from sentence.now 0))
+        (written 0 tokens.old) }
 {
     let mut at = splitter::start(sentence);
     let mut units: usize = 0;

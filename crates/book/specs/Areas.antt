@@ -1,10 +1,7 @@
 -- A book from what is lent: the head by value, and the contents of the slices, at the call and afterwards.
 -- Assumes nothing.
 use Rattle.std.specs.Prelude.{ℕ, ◌+◌, ◌/◌, Bool, List, Float}
-use Rattle.std.specs.Borrow.{Bor}
-use denote.Triple.Both.{Both}
-use Rattle.trie.specs.Trie.{CharTrie}
-use Rattle.trie.specs.Lent.{was, became, trie_lent, trie_left}
+use Rattle.trie.specs.Trie.{CharTrie, trie_of}
 use Rattle.book.specs.declared.Head.{Head}
 use Rattle.book.specs.Returns.{Book, allowed}
 
@@ -16,12 +13,6 @@ areas_allowed roots slots records logarithms = allowed roots roots ((slots + 1) 
 abbrev pub book_of : Head → CharTrie → List ℕ → List Float → Book
 book_of head trie records logarithms = record { head = head; trie = trie; records = records; logarithms = logarithms }
 
--- the book as it is lent to a call, with the head that it gets
-abbrev pub book_lent : {A B C D : Type 0} → Head
-    → Both (Bor (List ℕ)) A → Both (Bor (List ℕ)) B → Both (Bor (List ℕ)) C → Both (Bor (List Float)) D → Book
-book_lent head roots slots records logarithms = book_of head (trie_lent roots slots) (was records) (was logarithms)
-
--- the book as a call leaves it, with the head that it answers
-abbrev pub book_left : {A B C D : Type 0} → Head
-    → Both A (Bor (List ℕ)) → Both B (Bor (List ℕ)) → Both C (Bor (List ℕ)) → Both D (Bor (List Float)) → Book
-book_left head roots slots records logarithms = book_of head (trie_left roots slots) (became records) (became logarithms)
+-- the book in a head and four slices: as a call was lent it, or as the call left it, with the head that it answered
+abbrev pub book_in : Head → List ℕ → List ℕ → List ℕ → List Float → Book
+book_in head roots slots records logarithms = book_of head (trie_of roots slots) records logarithms

@@ -1,4 +1,5 @@
 //! What a book is and what the calls on it return: its head, the sizes that are allowed, and the damage that a head shows.
+#![tactic(auto)]
 
 ghost use Rattle.std.specs.Prelude.{◌≡◌, ◌≤◌};
 ghost use Rattle.trie.specs.SlotCounts.{most_slots};
@@ -7,7 +8,7 @@ ghost use Rattle.book.specs.Enter.{cell_with_frequency};
 ghost use Rattle.book.specs.Areas.{areas_allowed};
 
 // The numbers of document 01's table, by their meaning.
-#[derive(Drop)]
+#[derive(Clone, Copy)]
 pub enum Outcome {
     // 0
     Done,
@@ -36,7 +37,7 @@ pub enum Outcome {
 }
 
 // A book's head.
-#[derive(Drop)]
+#[derive(Clone, Copy)]
 pub struct Head {
     // Records used.
     pub records: u64,
@@ -49,14 +50,14 @@ pub struct Head {
 }
 
 // What preparing a book answers.
-#[derive(Drop)]
+#[derive(Clone, Copy)]
 pub enum Prepared {
     Ready(Head),
     Refused(Outcome),
 }
 
 // What a lookup answers.
-#[derive(Drop)]
+#[derive(Clone, Copy)]
 pub enum Found {
     Frequency(u32),
     Absent,
@@ -65,7 +66,7 @@ pub enum Found {
 
 // How a word enters: not at all, into a record that it has, or as a new word that takes so many slots and nodes. The
 // last two carry the total that follows.
-#[derive(Drop)]
+#[derive(Clone, Copy)]
 pub enum Decision {
     Refuse(Outcome),
     Replace(usize, u64),

@@ -4,7 +4,7 @@ use book::{Found, Head, Prepared};
 use load_lines::Loaded;
 
 // What a command answers: nothing, where it only stores; else document 01's number, with what comes beside it.
-#[derive(Drop)]
+#[derive(Clone, Copy)]
 pub enum Reply {
     Stored,
     Number(u32),
@@ -14,7 +14,7 @@ pub enum Reply {
 }
 
 // The answer and the head that is left behind.
-#[derive(Drop)]
+#[derive(Clone, Copy)]
 pub struct Answer {
     pub reply: Reply,
     pub head: Head,

@@ -9,6 +9,7 @@ use crate::{calls, sums};
 use book::Head;
 use cases::output::{print, print_decimal, print_next};
 use cases::{areas, output, script, stores};
+use std::io;
 
 // `head RECORDS SLOTS NEXT TOTAL` gives those values to the head; any other command stores none.
 fn head_after(head: Head, command: &[u8], name: u8) -> Head {
@@ -98,42 +99,48 @@ fn call(
     }
 }
 
-fn print_reply(reply: Reply) {
+fn print_reply(rt: &impl Print, reply: Reply) -> io::Result<()> {
     match reply {
-        Reply::Stored => print(b" stored"),
-        Reply::Number(n) => print_next(n as u64),
-        Reply::Absent => print(b" 0, absent"),
+        Reply::Stored => print(rt, b" stored"),
+        Reply::Number(n) => print_next(rt, n as u64),
+        Reply::Absent => print(rt, b" 0, absent"),
         Reply::Frequency(n, frequency) => {
-            print_next(n as u64);
-            print(b", frequency");
-            print_next(frequency);
+            print_next(rt, n as u64)?;
+            print(rt, b", frequency")?;
+            print_next(rt, frequency)
         }
         Reply::Line(n, line) => {
-            print_next(n as u64);
-            print(b", line");
-            print_next(line);
+            print_next(rt, n as u64)?;
+            print(rt, b", line")?;
+            print_next(rt, line)
         }
     }
 }
 
-fn print_answer(command: &[u8], given: Answer, before: u64, after: u64) {
+fn print_answer(
+    rt: &impl Print,
+    command: &[u8],
+    given: Answer,
+    before: u64,
+    after: u64,
+) -> io::Result<()> {
     let reply = given.reply;
     let head = given.head;
-    output::print_command(command);
-    print(b":");
-    print_reply(reply);
-    output::print_head(head.records, head.slots, head.next, head.total);
-    print(b"; areas ");
-    print_decimal(after);
+    output::print_command(rt, command)?;
+    print(rt, b":")?;
+    print_reply(rt, reply)?;
+    output::print_head(rt, head.records, head.slots, head.next, head.total)?;
+    print(rt, b"; areas ")?;
+    print_decimal(rt, after)?;
     if before == after {
-        print(b", unchanged\n");
+        print(rt, b", unchanged\n")
     } else {
-        print(b", changed\n");
+        print(rt, b", changed\n")
     }
 }
 
 // How far a script has come: the head, and the sum over the areas.
-#[derive(Drop)]
+#[derive(Clone, Copy)]
 struct State {
     head: Head,
     sum: u64,
@@ -141,6 +148,7 @@ struct State {
 
 // Prints a command's line.
 fn shown(
+    rt: &impl Print,
     given: Answer,
     before: u64,
     roots: &[u64],
@@ -148,22 +156,23 @@ fn shown(
     records: &[u64],
     logarithms: &[f64],
     command: &[u8],
-) -> State {
+) -> io::Result<State> {
     let sum = sums::sum_of(roots, slots, records, logarithms);
-    print_answer(command, given, before, sum);
+    print_answer(rt, command, given, before, sum)?;
     let head = given.head;
-    State { head, sum }
+    Ok(State { head, sum })
 }
 
 // Plays one command and prints its line.
 fn turn(
+    rt: &impl Print,
     state: State,
     roots: &mut [u64],
     slots: &mut [u64],
     records: &mut [u64],
     logarithms: &mut [f64],
     command: &[u8],
-) -> State {
+) -> io::Result<State> {
     let given = call(
         state.head,
         roots,
@@ -173,7 +182,9 @@ fn turn(
         command,
         script::name(command),
     );
-    shown(given, state.sum, roots, slots, records, logarithms, command)
+    shown(
+        rt, given, state.sum, roots, slots, records, logarithms, command,
+    )
 }
 
 // The state before a script: a head of zeros.
@@ -191,25 +202,35 @@ fn start(roots: &[u64], slots: &[u64], records: &[u64], logarithms: &[f64]) -> S
 
 // The commands of a script one after the other.
 fn play(
+    rt: &impl Print,
     roots: &mut [u64],
     slots: &mut [u64],
     records: &mut [u64],
     logarithms: &mut [f64],
     script: &[u8],
-) {
+) -> io::Result<()> {
     let mut state = start(roots, slots, records, logarithms);
     let mut at: usize = 0;
     while at < script.len() {
         let end = script::find(script, at, b';');
         let next = script::next_command(script, at);
-        state = turn(state, roots, slots, records, logarithms, &script[at..end]);
+        state = turn(
+            rt,
+            state,
+            roots,
+            slots,
+            records,
+            logarithms,
+            &script[at..end],
+        )?;
         at = next;
     }
+    Ok(())
 }
 
 // Plays a case. The areas hold sevens at first, so that what `prepare` writes shows.
-pub fn play_case(case: &[u8]) {
-    output::print_heading(case);
+pub fn play_case(rt: &impl Print, case: &[u8]) -> io::Result<()> {
+    output::print_heading(rt, case)?;
     let roots = script::size(case, 1, 65537);
     let slots = script::size(case, 3, 128);
     let records = script::size(case, 5, 16);
@@ -219,10 +240,11 @@ pub fn play_case(case: &[u8]) {
     let mut record_area = [7u64; 16];
     let mut logarithm_area = [7.0f64; 16];
     play(
+        rt,
         &mut root_area[..roots],
         &mut slot_area[..slots],
         &mut record_area[..records],
         &mut logarithm_area[..logarithms],
         script::part(case, 2),
-    );
+    )
 }

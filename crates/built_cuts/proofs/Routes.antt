@@ -73,7 +73,7 @@ shortest_at total ledger cs rows held sum nothing position w its = by (get_or ro
     all_zero = none_in_rows ledger cs rows held (sym sum ∙ nothing)
 
     by : (row : List Word) → get_or rows position [] ≡ row → Memᴰ w row → ShortestAt total ledger cs rows position
-    by [] here m = absurd (Memᴰ.not_nil m)
+    by [] here m = absurd (Memᴰ.not-nil m)
     by (first ∷ others) here m =
         let chosen = shortest_at_total_zero 0 rows all_zero position first others here (subst Rising here (held.rising position)) in
         record {

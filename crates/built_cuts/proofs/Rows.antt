@@ -70,7 +70,7 @@ module _ (ledger : List Entry) where
   -- each of the words is one that ends so, in the ledger with its frequency
   each_ends : (cs read : List ℕ) (at : ℕ) (w : Word) → Memᴰ w (held_after read at cs) → Ending read at cs w
   unfolding held_after
-  each_ends [] read at w m = absurd (Memᴰ.not_nil m)
+  each_ends [] read at w m = absurd (Memᴰ.not-nil m)
   each_ends (c ∷ cs) read at w m =
       by (λ n. ending_later read at c cs w (each_ends cs (read ++ (c ∷ [])) (at + 1) w n)) (frequency_in ledger (read ++ (c ∷ []))) refl m
     where

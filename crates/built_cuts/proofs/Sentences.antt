@@ -53,7 +53,7 @@ onto_fits n c m (first ∷ blocks) s each block k = by (beq m first.matched) k
 
 blocks_fit : (class : ℕ → Bool) (cs : List ℕ) → Scalars cs → EachFits (length cs) (blocks_of class cs)
 unfolding blocks_of
-blocks_fit class [] s block k = absurd (Memᴰ.not_nil k)
+blocks_fit class [] s block k = absurd (Memᴰ.not-nil k)
 blocks_fit class (c ∷ cs) s block k = onto_fits (length cs) c (class c) (blocks_of class cs) s.0 (blocks_fit class cs s.1) block k
 
 -- ---- the claims

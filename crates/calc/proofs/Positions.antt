@@ -180,7 +180,7 @@ module _ (starts edge_ends edge_records : List ℕ) (logarithms : List Float) (l
           ∙ ap (λ (b : Best). b ∷ route_from next)
           (sym
           (best
-          ∙ settled_same log_total _ (route_from next) next (as_choice choice) same_next
+          ∙ settled_same log_total (with_scores (get_or scores next nan ∷ [])) (route_from next) next (as_choice choice) same_next
           ∙ ap (settled log_total (route_from next) next) same_choice))
 
       kept_here : (choice : CodeChoice) (from to : ℕ)

@@ -2,8 +2,9 @@
 //!
 //! The Rust fills a `Vec` of `RouteEntry`. Here the route is written into slices that the caller lends, one for each field of an
 //! entry. Positions are counted from the block's start.
+#![tactic(auto)]
+
 ghost use Rattle.std.specs.Prelude.{◌≡◌, [], ◌∷◌, ◌≤◌, ◌<◌, length};
-ghost use Rattle.trie.specs.Lent.{was, became};
 ghost use Rattle.book.specs.Returns.{longest_text};
 ghost use Rattle.route.specs.Route.{settled};
 ghost use Rattle.route.specs.Slices.{as_best, as_choice, record_of, with_scores, EdgesFit, PlacesFit, chosen_from, ChosenOf, KeepsRoute};
@@ -21,9 +22,9 @@ fn best_of(
     to: usize,
 ) -> Choice
     requires { PlacesFit edge_ends.now edge_records.now (length scores.now) (length logarithms.now) from to }
-    ensures result_value { as_choice result ≡ chosen_from (was edge_ends) (was edge_records) (was logarithms) (was scores)
+    ensures result_value { as_choice result ≡ chosen_from edge_ends.now edge_records.now logarithms.now scores.now
         log_total from to }
-    ensures chosen_of { ChosenOf (was edge_ends) (was edge_records) from to result }
+    ensures chosen_of { ChosenOf edge_ends.now edge_records.now from to result }
 {
     let mut choice = Choice::NoEdge;
     let mut place = from;
@@ -69,8 +70,8 @@ pub fn calc(
 )
     requires n_le_longest_text { (n ≤ longest_text) × (n < length starts.now) × (n < length scores.old) × (n < length ends.old) × (n < length records.old) }
     requires edges_fit { EdgesFit starts.now edge_ends.now edge_records.now (length logarithms.now) n }
-    ensures { KeepsRoute (was starts) (was edge_ends) (was edge_records) (was logarithms) log_total n
-        (became scores) (became ends) (became records) }
+    ensures { KeepsRoute starts.now edge_ends.now edge_records.now logarithms.now log_total n
+        scores.new ends.new records.new }
 {
     scores[n] = 0.0;
     ends[n] = n as u32;

@@ -2,6 +2,8 @@
 //! areas, and the lines that are printed.
 //!
 //! Proved here is only that each function is safe and ends, and that what it answers lies within what it was given.
+#![tactic(auto)]
+
 pub mod areas;
 pub mod output;
 pub mod paragraphs;

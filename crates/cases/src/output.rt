@@ -1,21 +1,21 @@
 //! What the programs print with: text, numbers, a command as it was given, a head, and a case's heading.
 use crate::script;
-use libc::STDOUT_FILENO;
+use std::io;
 use utf8::CharCount;
 
 // Bytes as they stand.
-pub fn print(text: &[u8]) {
-    io::write_all(STDOUT_FILENO, text);
+pub fn print(rt: &impl Print, text: &[u8]) -> io::Result<()> {
+    rt.write_all(text)
 }
 
-pub fn print_decimal(n: u64) {
-    io::print_decimal(STDOUT_FILENO, n);
+pub fn print_decimal(rt: &impl Print, n: u64) -> io::Result<()> {
+    rt.print(n)
 }
 
 // A number with a space before it.
-pub fn print_next(n: u64) {
-    print(b" ");
-    print_decimal(n);
+pub fn print_next(rt: &impl Print, n: u64) -> io::Result<()> {
+    print(rt, b" ")?;
+    print_decimal(rt, n)
 }
 
 fn is_well_formed(s: &[u8]) -> bool {
@@ -27,44 +27,49 @@ fn is_well_formed(s: &[u8]) -> bool {
 
 // A byte of a command. The end of a line would break the line that is printed, and is shown as `/`; other control bytes, and bytes
 // that would make the output malformed, are shown as numbers, `<255>`.
-fn print_byte(b: u8, plain: bool) {
+fn print_byte(rt: &impl Print, b: u8, plain: bool) -> io::Result<()> {
     if b == 0x0A {
-        print(b"/");
-        return;
+        return print(rt, b"/");
     }
     if 0x20 <= b && (b < 0x80 || plain) {
         let one = [b];
-        print(&one);
-        return;
+        return print(rt, &one);
     }
-    print(b"<");
-    print_decimal(b as u64);
-    print(b">");
+    print(rt, b"<")?;
+    print_decimal(rt, b as u64)?;
+    print(rt, b">")
 }
 
-pub fn print_command(s: &[u8]) {
+pub fn print_command(rt: &impl Print, s: &[u8]) -> io::Result<()> {
     let plain = is_well_formed(s);
     let mut i = 0;
     while i < s.len() {
-        print_byte(s[i], plain);
+        print_byte(rt, s[i], plain)?;
         i += 1;
     }
+    Ok(())
 }
 
 // A head: the records and slots in use, the next node, and the total.
-pub fn print_head(records: u64, slots: u64, next: u64, total: u64) {
-    print(b"; head");
-    print_next(records);
-    print_next(slots);
-    print_next(next);
-    print_next(total);
+pub fn print_head(
+    rt: &impl Print,
+    records: u64,
+    slots: u64,
+    next: u64,
+    total: u64,
+) -> io::Result<()> {
+    print(rt, b"; head")?;
+    print_next(rt, records)?;
+    print_next(rt, slots)?;
+    print_next(rt, next)?;
+    print_next(rt, total)
 }
 
 // The heading of a case, with its lengths.
-pub fn print_heading(case: &[u8]) {
-    print(b"\n");
-    print(script::part(case, 0));
-    print(b" (");
-    print(script::part(case, 1));
-    print(b")\n");
+pub fn print_heading(rt: &impl Print, case: &[u8]) -> io::Result<()> {
+    print(rt, b"\n")?;
+    print(rt, script::part(case, 0))?;
+    print(rt, b" (")?;
+    print(rt, script::part(case, 1))?;
+    print(rt, b")\n")
 }

@@ -1,23 +1,39 @@
 //! The cases of an input. They are paragraphs, parted by empty lines; a paragraph that begins with `#` is a note for the reader. The
 //! ends of lines within a case lay it out and do not count: there `\n` is LF, `\r` is CR, and `\` with two hexadecimal digits in
 //! capitals is any byte.
-ghost use Rattle.std.specs.Prelude.{◌<◌, ◌≤◌, length};
-ghost use Rattle.io.specs.Counts.{IsPrefixLen};
+ghost use Rattle.std.specs.Prelude.{◌<◌, ◌≤◌, length, IfOk};
+ghost use Rattle.cases.specs.Counts.{IsPrefixLen};
 
 use crate::output::print;
 use crate::script;
-use libc::STDIN_FILENO;
+use std::io;
+use std::io::Read;
+
+// Reads until the input ends or the space is full, and returns how many bytes it put at the space's start.
+fn read_full(input: &mut impl Read, space: &mut [u8]) -> io::Result<usize>
+    ensures { IfOk result (λ n. IsPrefixLen n space.new) }
+{
+    let mut done = 0;
+    while done < space.len() {
+        let n = input.read(&mut space[done..])?;
+        if n == 0 {
+            break;
+        }
+        done += n;
+    }
+    Ok(done)
+}
 
 // Reads the input, and returns its length. One that fills the space may be cut short, and counts as empty.
-pub fn read(space: &mut [u8]) -> usize
-    ensures { IsPrefixLen result space.new }
+pub fn read(rt: &impl Print, input: &mut impl Read, space: &mut [u8]) -> io::Result<usize>
+    ensures { IfOk result (λ n. IsPrefixLen n space.new) }
 {
-    let length = io::read_full(STDIN_FILENO, space);
+    let length = read_full(input, space)?;
     if length == space.len() {
-        print(b"the input is too long\n");
-        return 0;
+        print(rt, b"the input is too long\n")?;
+        return Ok(0);
     }
-    length
+    Ok(length)
 }
 
 // The byte at a place, and 0 behind the end.
@@ -101,18 +117,18 @@ fn decode(paragraph: &[u8], case: &mut [u8]) -> usize
 
 // Writes the case that a paragraph says from the space's start on, and returns its length: 0 where the paragraph is a note. A case
 // that fills the space may be cut short, and is none.
-pub fn case_of(paragraph: &[u8], space: &mut [u8]) -> usize
-    ensures { IsPrefixLen result space.new }
+pub fn case_of(rt: &impl Print, paragraph: &[u8], space: &mut [u8]) -> io::Result<usize>
+    ensures { IfOk result (λ n. IsPrefixLen n space.new) }
 {
     if script::name(paragraph) == b'#' {
-        return 0;
+        return Ok(0);
     }
     let length = decode(paragraph, space);
     if length == space.len() {
-        print(b"a case is too long\n");
-        return 0;
+        print(rt, b"a case is too long\n")?;
+        return Ok(0);
     }
-    length
+    Ok(length)
 }
 
 // Where the paragraph at a place ends: before an empty line, or at the text's end.

@@ -6,7 +6,7 @@ ghost use Rattle.std.specs.Prelude.{◌≤◌};
 use crate::script;
 
 // What a store changes of a number: all of it, its low 32 bits, or its high 32, where a word number stands with one added.
-#[derive(Drop)]
+#[derive(Clone, Copy)]
 enum Part {
     Whole,
     Child,

@@ -1,9 +1,10 @@
 //! Slots by their keys: where a key's probe starts and ends, and one step of a walk, bits first. The counterparts are methods
 //! of the Rust's `CharTrie`. The Rust keeps the shift beside the slots; here it is worked out once a call, from the number of
 //! slots, and lent with them.
+#![tactic(auto)]
+
 ghost use Rattle.std.specs.Prelude.{◌≡◌, ◌*◌, ◌/◌, ◌%◌, ◌^◌, ◌<◌, length};
 ghost use Rattle.trie.specs.Trie.{key_of, SlotTable, keys_of, next_slot, probe_of, empty_slot, step_by_probe, step_from};
-ghost use Rattle.trie.specs.Lent.{was};
 
 use trie::{ParentRef, Probe, Step};
 
@@ -33,7 +34,7 @@ fn next_slot(n: usize, i: usize) -> usize
 // its tables always have an empty slot. Whether a slot is left is asked after one was looked at, and not before the first.
 pub fn probe(slots: &[u64], shift: u32, key: u64) -> Probe
     requires { SlotTable (length slots.now) shift }
-    ensures { result ≡ probe_of (keys_of (was slots)) key }
+    ensures { result ≡ probe_of (keys_of slots.now) key }
 {
     let n = slots.len() / 2;
     let mut left = n;
@@ -57,7 +58,7 @@ pub fn probe(slots: &[u64], shift: u32, key: u64) -> Probe
 // The first empty slot from a key's start on: where a new step goes. It does not look for the key.
 pub fn first_empty(slots: &[u64], shift: u32, key: u64) -> Probe
     requires { SlotTable (length slots.now) shift }
-    ensures { result ≡ empty_slot (keys_of (was slots)) key }
+    ensures { result ≡ empty_slot (keys_of slots.now) key }
 {
     let n = slots.len() / 2;
     let mut left = n;
@@ -73,10 +74,10 @@ pub fn first_empty(slots: &[u64], shift: u32, key: u64) -> Probe
 }
 
 // The step to a child that has a slot: where the probe for its parent's node and its character ends.
-pub fn slot_step_lem(slots: &[u64], shift: u32, node: u32, ch: u32) -> Step
+pub fn slot_step(slots: &[u64], shift: u32, node: u32, ch: u32) -> Step
     requires slot_table { SlotTable (length slots.now) shift }
     requires node_bound { (node < 2 ^ 24) × (ch < 2 ^ 21) }
-    ensures { result ≡ step_by_probe (probe_of (keys_of (was slots)) (key_of node ch)) }
+    ensures { result ≡ step_by_probe (probe_of (keys_of slots.now) (key_of node ch)) }
 {
     match probe(slots, shift, trie::key(node, ch)) {
         Probe::Found(i) => Step::At(ParentRef::Slot(i)),
@@ -90,7 +91,7 @@ pub fn slot_step_lem(slots: &[u64], shift: u32, node: u32, ch: u32) -> Step
 pub fn step(slots: &[u64], shift: u32, filter: u64, child: u32, ch: u32) -> Step
     requires slot_table { SlotTable (length slots.now) shift }
     requires ch_bound { ch < 2 ^ 21 }
-    ensures { result ≡ step_from (keys_of (was slots)) filter child ch }
+    ensures { result ≡ step_from (keys_of slots.now) filter child ch }
 {
     let bits = trie::filter_bits(ch);
     if !arith::has_bit_u64(filter, bits.key) {
@@ -99,5 +100,5 @@ pub fn step(slots: &[u64], shift: u32, filter: u64, child: u32, ch: u32) -> Step
     if !arith::has_bit_u32(child, bits.child) {
         return Step::Nothing;
     }
-    slot_step_lem(slots, shift, child % trie::NODES, ch)
+    slot_step(slots, shift, child % trie::NODES, ch)
 }

@@ -2,110 +2,111 @@
 use crate::output::print_bytes;
 use cases::output::{print, print_decimal};
 use lines::{Frequency, Line};
+use std::io;
 
-fn print_frequency(field: &[u8]) {
-    print_bytes(field);
-    print(b": ");
+fn print_frequency(rt: &impl Print, field: &[u8]) -> io::Result<()> {
+    print_bytes(rt, field)?;
+    print(rt, b": ")?;
     match lines::parse_frequency(field) {
         Frequency::Value(n) => {
-            print_decimal(n as u64);
+            print_decimal(rt, n as u64)?;
         }
         Frequency::Malformed => {
-            print(b"refused");
+            print(rt, b"refused")?;
         }
     }
-    print(b"\n");
+    print(rt, b"\n")
 }
 
 // An optional + and digits, up to 4294967295; then what is none.
-fn print_frequencies() {
-    print_frequency(b"0");
-    print_frequency(b"7");
-    print_frequency(b"+7");
-    print_frequency(b"+0");
-    print_frequency(b"0000000000000000000007");
-    print_frequency(b"4294967295");
-    print_frequency(b"+04294967295");
-    print_frequency(b"");
-    print_frequency(b"+");
-    print_frequency(b"++7");
-    print_frequency(b"-0");
-    print_frequency(b"7a");
-    print_frequency(b"a7");
-    print_frequency(b"7.");
-    print_frequency(b"/7");
-    print_frequency(b":7");
-    print_frequency(b"4294967296");
-    print_frequency(b"18446744073709551616");
-    print_frequency(b"99999999999999999999999999999999");
-    print_frequency(b"\xEF\xBC\x91");
+fn print_frequencies(rt: &impl Print) -> io::Result<()> {
+    print_frequency(rt, b"0")?;
+    print_frequency(rt, b"7")?;
+    print_frequency(rt, b"+7")?;
+    print_frequency(rt, b"+0")?;
+    print_frequency(rt, b"0000000000000000000007")?;
+    print_frequency(rt, b"4294967295")?;
+    print_frequency(rt, b"+04294967295")?;
+    print_frequency(rt, b"")?;
+    print_frequency(rt, b"+")?;
+    print_frequency(rt, b"++7")?;
+    print_frequency(rt, b"-0")?;
+    print_frequency(rt, b"7a")?;
+    print_frequency(rt, b"a7")?;
+    print_frequency(rt, b"7.")?;
+    print_frequency(rt, b"/7")?;
+    print_frequency(rt, b":7")?;
+    print_frequency(rt, b"4294967296")?;
+    print_frequency(rt, b"18446744073709551616")?;
+    print_frequency(rt, b"99999999999999999999999999999999")?;
+    print_frequency(rt, b"\xEF\xBC\x91")
 }
 
-fn print_line(line: &[u8]) {
-    print_bytes(line);
-    print(b": ");
+fn print_line(rt: &impl Print, line: &[u8]) -> io::Result<()> {
+    print_bytes(rt, line)?;
+    print(rt, b": ")?;
     match lines::parse_line(line) {
         Line::Malformed => {
-            print(b"malformed");
+            print(rt, b"malformed")?;
         }
         Line::Blank => {
-            print(b"blank");
+            print(rt, b"blank")?;
         }
         Line::BadFrequency => {
-            print(b"no frequency");
+            print(rt, b"no frequency")?;
         }
         Line::Entry(start, end, n) => {
-            print(b"word from ");
-            print_decimal(start as u64);
-            print(b" to ");
-            print_decimal(end as u64);
-            print(b", frequency ");
-            print_decimal(n as u64);
+            print(rt, b"word from ")?;
+            print_decimal(rt, start as u64)?;
+            print(rt, b" to ")?;
+            print_decimal(rt, end as u64)?;
+            print(rt, b", frequency ")?;
+            print_decimal(rt, n as u64)?;
         }
     }
-    print(b"\n");
+    print(rt, b"\n")
 }
 
 // White space of one, two and three bytes around the fields; a third field; no second one, which means 1; blank lines; what is refused.
-fn print_lines() {
-    print_line(b"\xE7\x94\xB2 5");
-    print_line(b"\xE7\x94\xB2");
-    print_line(b"\xE7\x94\xB2\xE3\x80\x80\r");
-    print_line(b"\xE7\x94\xB2 0");
-    print_line(b" \t\xE7\x94\xB2  5\t n x");
-    print_line(b"\xE3\x80\x80\xE7\x94\xB2\xE3\x80\x805\xE3\x80\x80");
-    print_line(b"a\xC2\x85+7");
-    print_line(b"a\xE2\x80\x8B5");
-    print_line(b"a 5\r");
-    print_line(b"\x00 1");
-    print_line(b"");
-    print_line(b" \t\r\xC2\xA0");
-    print_line(b"a +");
-    print_line(b"a x");
-    print_line(b"a \xEF\xBC\x91");
-    print_line(b"a 5 \xFF");
-    print_line(b"\xE7\x94 5");
-    print_line(b"a x \xC3");
+fn print_lines(rt: &impl Print) -> io::Result<()> {
+    print_line(rt, b"\xE7\x94\xB2 5")?;
+    print_line(rt, b"\xE7\x94\xB2")?;
+    print_line(rt, b"\xE7\x94\xB2\xE3\x80\x80\r")?;
+    print_line(rt, b"\xE7\x94\xB2 0")?;
+    print_line(rt, b" \t\xE7\x94\xB2  5\t n x")?;
+    print_line(rt, b"\xE3\x80\x80\xE7\x94\xB2\xE3\x80\x805\xE3\x80\x80")?;
+    print_line(rt, b"a\xC2\x85+7")?;
+    print_line(rt, b"a\xE2\x80\x8B5")?;
+    print_line(rt, b"a 5\r")?;
+    print_line(rt, b"\x00 1")?;
+    print_line(rt, b"")?;
+    print_line(rt, b" \t\r\xC2\xA0")?;
+    print_line(rt, b"a +")?;
+    print_line(rt, b"a x")?;
+    print_line(rt, b"a \xEF\xBC\x91")?;
+    print_line(rt, b"a 5 \xFF")?;
+    print_line(rt, b"\xE7\x94 5")?;
+    print_line(rt, b"a x \xC3")
 }
 
 // Where each line of a text ends, from its start on.
-fn print_ends(s: &[u8], from: usize) {
-    print_bytes(s);
-    print(b" from ");
-    print_decimal(from as u64);
-    print(b": line to ");
-    print_decimal(lines::line_end(s, from) as u64);
-    print(b"\n");
+fn print_ends(rt: &impl Print, s: &[u8], from: usize) -> io::Result<()> {
+    print_bytes(rt, s)?;
+    print(rt, b" from ")?;
+    print_decimal(rt, from as u64)?;
+    print(rt, b": line to ")?;
+    print_decimal(rt, lines::line_end(s, from) as u64)?;
+    print(rt, b"\n")
 }
 
-pub fn print_group() {
-    print(b"\nFrequencies\n");
-    print_frequencies();
-    print(b"\nLines of a dictionary\n");
-    print_lines();
-    print_ends(b"a 1\nb\r\n\nc", 0);
-    print_ends(b"a 1\nb\r\n\nc", 4);
-    print_ends(b"a 1\nb\r\n\nc", 7);
-    print_ends(b"a 1\nb\r\n\nc", 8);
-    print_ends(b"", 0);
+pub fn print_group(rt: &impl Print) -> io::Result<()> {
+    print(rt, b"\nFrequencies\n")?;
+    print_frequencies(rt)?;
+    print(rt, b"\nLines of a dictionary\n")?;
+    print_lines(rt)?;
+    print_ends(rt, b"a 1\nb\r\n\nc", 0)?;
+    print_ends(rt, b"a 1\nb\r\n\nc", 4)?;
+    print_ends(rt, b"a 1\nb\r\n\nc", 7)?;
+    print_ends(rt, b"a 1\nb\r\n\nc", 8)?;
+    print_ends(rt, b"", 0)
 }

@@ -3,10 +3,11 @@ ghost use Rattle.std.specs.Prelude.{◌<◌, ◌≤◌};
 
 use crate::output::{print_number_of, print_range};
 use cases::output::print;
+use std::io;
 use utf8::Character;
 
 // What is asked of a number x. The first five take x for a byte, the others for a character.
-#[derive(Drop)]
+#[derive(Clone, Copy)]
 pub enum Question {
     // How many bytes are read of this lead byte, x, 80, 80?
     SecondByte(u32),
@@ -99,28 +100,43 @@ pub fn run_end(question: Question, from: u32, limit: u32) -> u32
 
 // A range of numbers with one answer, after `before`: nothing where the answer is 0. An answer above 1 is so many bytes, and follows
 // the range.
-fn print_run(first: u32, last: u32, found: usize, before: &[u8], least: u32)
+fn print_run(
+    rt: &impl Print,
+    first: u32,
+    last: u32,
+    found: usize,
+    before: &[u8],
+    least: u32,
+) -> io::Result<()>
     requires { least ≤ 8 }
 {
     if found == 0 {
-        return;
+        return Ok(());
     }
-    print(before);
-    print_range(first, last, least);
+    print(rt, before)?;
+    print_range(rt, first, last, least)?;
     if 1 < found {
-        print(b", ");
-        print_number_of(found, b"byte");
+        print(rt, b", ")?;
+        print_number_of(rt, found, b"byte")?;
     }
+    Ok(())
 }
 
 // Each maximal range of numbers below `limit` that have one answer.
-pub fn print_ranges(question: Question, limit: u32, before: &[u8], least: u32)
+pub fn print_ranges(
+    rt: &impl Print,
+    question: Question,
+    limit: u32,
+    before: &[u8],
+    least: u32,
+) -> io::Result<()>
     requires { least ≤ 8 }
 {
     let mut x: u32 = 0;
     while x < limit {
         let end = run_end(question, x, limit);
-        print_run(x, end - 1, answer(question, x), before, least);
+        print_run(rt, x, end - 1, answer(question, x), before, least)?;
         x = end;
     }
+    Ok(())
 }

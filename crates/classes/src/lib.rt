@@ -1,6 +1,8 @@
 //! The classes of characters that loads and cuts go by (lib.rs; the connectors from hmm.rs). A character is its code point, and each
 //! class is decided by a match over the code points that document 01 lists, for Han with those of document 02's note 9. Every number
 //! is accepted, code point or not.
+#![tactic(auto)]
+
 ghost use Rattle.std.specs.Prelude.{◌≡◌, not};
 ghost use Rattle.classes.specs.WhiteSpace.{white_space};
 ghost use Rattle.classes.specs.Blocks.{ascii_letter_or_digit, han_main, han_extension, han, cut_sign, cut_class, cut_all_class};

@@ -1,8 +1,9 @@
 //! How a word enters, by counts alone: the total, the records and slots used, the next node. The walk that tells a held word from a
 //! new one, and how much of a new one is there, is behind it (`decision`).
+#![tactic(auto)]
+
 ghost use Rattle.std.specs.Prelude.{◌≡◌, ◌/◌, ◌%◌, ◌≤◌, length};
 ghost use Rattle.trie.specs.Trie.{keys_of};
-ghost use Rattle.trie.specs.Lent.{was};
 ghost use Rattle.trie.specs.SlotCounts.{most_slots};
 ghost use Rattle.book.specs.Returns.{longest_text, greatest_total, greatest_next};
 ghost use Rattle.book.specs.Enter.{replace_by, insert_by};
@@ -37,13 +38,13 @@ pub fn decide_new(
     requires table_len_bound { (length table.now / 2 ≤ most_slots) × (head.slots ≤ length table.now / 2) × (length table.now % 2 ≡ 0) }
     requires total_le_greatest_total { (head.total ≤ greatest_total) × (head.next ≤ greatest_next) × (frequency ≤ greatest_total) }
     requires slots_le_longest_text { (slots ≤ longest_text) × (nodes ≤ longest_text) }
-    ensures { result ≡ insert_by head records (keys_of (was table)) slots nodes frequency }
+    ensures { result ≡ insert_by head records (keys_of table.now) slots nodes frequency }
 {
     let total = head.total + frequency;
     if book::GREATEST_TOTAL < total {
         return Decision::Refuse(Outcome::TotalTooLarge);
     }
-    if records::no_record_lem(head, records) {
+    if records::no_record(head, records) {
         return Decision::Refuse(Outcome::RecordsFull);
     }
     let most = table.len() / 2;

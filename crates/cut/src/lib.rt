@@ -1,11 +1,12 @@
 //! `cut` (lib.rs): a sentence into words. It is `tokenize` with the mode `Default`; what it is lent, and what becomes of it, is said
 //! there.
+#![tactic(auto)]
+
 ghost use Rattle.std.specs.Prelude.{◌≡◌, false};
-ghost use Rattle.trie.specs.Lent.{was, became};
-ghost use Rattle.book.specs.Areas.{book_lent};
+ghost use Rattle.book.specs.Areas.{book_in};
 ghost use Rattle.cuts.specs.Slices.{Unchanged};
 ghost use Rattle.cuts.specs.Cuts.{cut_answer, tested_book, begins, cut_of};
-ghost use Rattle.cut_sentence.specs.Areas.{work_lent, room_lent};
+ghost use Rattle.cut_sentence.specs.Areas.{work_of, room_of};
 
 use book::Head;
 use cuts::{Cut, TokenizeMode};
@@ -28,12 +29,12 @@ pub fn cut(
     edge_records: &mut [u32],
     tokens: &mut [u32],
 ) -> Cut
-    ensures tokens_value { cut_answer result (became tokens) ≡ cut_of (book_lent head roots slots records logarithms)
-        (work_lent chars offsets starts scores ends route_records) (room_lent edge_ends edge_records) (was tokens) (was sentence) }
-    ensures unchanged { begins (tested_book (book_lent head roots slots records logarithms))
-        (work_lent chars offsets starts scores ends route_records) (was tokens) (was sentence) ≡ false
-        → Unchanged chars × Unchanged offsets × Unchanged starts × Unchanged scores × Unchanged ends × Unchanged route_records
-        × Unchanged edge_ends × Unchanged edge_records }
+    ensures tokens_value { cut_answer result tokens.new ≡ cut_of (book_in head roots.now slots.now records.now logarithms.now)
+        (work_of chars.old offsets.old starts.old scores.old ends.old route_records.old) (room_of edge_ends.old edge_records.old) tokens.old sentence.now }
+    ensures unchanged { begins (tested_book (book_in head roots.now slots.now records.now logarithms.now))
+        (work_of chars.old offsets.old starts.old scores.old ends.old route_records.old) tokens.old sentence.now ≡ false
+        → Unchanged chars.old chars.new × Unchanged offsets.old offsets.new × Unchanged starts.old starts.new × Unchanged scores.old scores.new × Unchanged ends.old ends.new × Unchanged route_records.old route_records.new
+        × Unchanged edge_ends.old edge_ends.new × Unchanged edge_records.old edge_records.new }
 {
     let shortest = sentence::shortest(
         chars.len(),

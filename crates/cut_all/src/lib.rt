@@ -2,12 +2,13 @@
 //!
 //! The work area is two slices, which a block fills from their start: its characters, and their offsets in the sentence. The token
 //! area is one flat slice.
+#![tactic(auto)]
+
 ghost use Rattle.std.specs.Prelude.{◌≡◌, false};
-ghost use Rattle.trie.specs.Lent.{was, became};
-ghost use Rattle.book.specs.Areas.{book_lent};
+ghost use Rattle.book.specs.Areas.{book_in};
 ghost use Rattle.cuts.specs.Slices.{Unchanged};
 ghost use Rattle.cuts.specs.Cuts.{cut_answer, tested_book, begins, cut_all_of};
-ghost use Rattle.cut_all.specs.Areas.{work_lent};
+ghost use Rattle.cut_all.specs.Areas.{work_of};
 
 use book::Head;
 use cuts::Cut;
@@ -24,10 +25,10 @@ pub fn cut_all(
     offsets: &mut [u64],
     tokens: &mut [u32],
 ) -> Cut
-    ensures tokens_value { cut_answer result (became tokens)
-        ≡ cut_all_of (book_lent head roots slots records logarithms) (work_lent chars offsets) (was tokens) (was sentence) }
-    ensures unchanged { begins (tested_book (book_lent head roots slots records logarithms)) (work_lent chars offsets) (was tokens) (was sentence) ≡ false
-        → Unchanged chars × Unchanged offsets }
+    ensures tokens_value { cut_answer result tokens.new
+        ≡ cut_all_of (book_in head roots.now slots.now records.now logarithms.now) (work_of chars.old offsets.old) tokens.old sentence.now }
+    ensures unchanged { begins (tested_book (book_in head roots.now slots.now records.now logarithms.now)) (work_of chars.old offsets.old) tokens.old sentence.now ≡ false
+        → Unchanged chars.old chars.new × Unchanged offsets.old offsets.new }
 {
     let work = sentence::shorter(chars.len(), offsets.len());
     let tested = sentence::begin(

@@ -1,8 +1,9 @@
 //! The blocks of a sentence, one after the other, each with every word of the dictionary that it holds (lib.rs, `cut_all`).
+#![tactic(auto)]
+
 ghost use Rattle.std.specs.Prelude.{◌≡◌, ◌≤◌, ◌<◌, length};
 ghost use Rattle.std.proofs.Math.Option.{IsSome};
-ghost use Rattle.trie.specs.Trie.{SlotTable};
-ghost use Rattle.trie.specs.Lent.{was, became, trie_lent};
+ghost use Rattle.trie.specs.Trie.{trie_of, SlotTable};
 ghost use Rattle.utf8.specs.Text.{chars_of};
 ghost use Rattle.book.specs.Returns.{Book, longest_text};
 ghost use Rattle.classes.specs.Blocks.{cut_all_class};
@@ -31,9 +32,9 @@ pub fn cut_all_blocks(
     requires slot_table { SlotTable (length slots.now) shift }
     requires sentence_len_bound { (length sentence.now ≤ longest_text) × IsSome (chars_of sentence.now) }
     requires sentence_in_bounds { (length (text_from sentence.now 0) < length chars.old) × (length (text_from sentence.now 0) < length offsets.old) }
-    ensures { (b : Book) → SeenAs b (trie_lent roots slots) used
-        → cut_answer result (became tokens) ≡ cut_blocks (cut_all_block (vocabulary_of b)) start (blocks_of cut_all_class (text_from (was sentence) 0))
-        (written 0 (was tokens)) }
+    ensures { (b : Book) → SeenAs b (trie_of roots.now slots.now) used
+        → cut_answer result tokens.new ≡ cut_blocks (cut_all_block (vocabulary_of b)) start (blocks_of cut_all_class (text_from sentence.now 0))
+        (written 0 tokens.old) }
 {
     let mut at = splitter::start(sentence);
     let mut units: usize = 0;

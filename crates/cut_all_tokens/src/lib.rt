@@ -1,7 +1,8 @@
 //! Every word of a block, position after position (lib.rs, `cut_all_tokens`).
+#![tactic(auto)]
+
 ghost use Rattle.std.specs.Prelude.{◌≡◌, ◌+◌, ◌≤◌, ◌<◌, length, take};
-ghost use Rattle.trie.specs.Trie.{SlotTable};
-ghost use Rattle.trie.specs.Lent.{was, became, trie_lent};
+ghost use Rattle.trie.specs.Trie.{trie_of, SlotTable};
 ghost use Rattle.book.specs.Returns.{Book, longest_text};
 ghost use Rattle.book.specs.Prefixes.{words_from};
 ghost use Rattle.cuts.specs.Slices.{SeenAs, Characters, Placed};
@@ -27,9 +28,9 @@ pub fn cut_all_tokens(
 ) -> Cut
     requires slot_table { SlotTable (length slots.now) shift }
     requires n_in_bounds { (n ≤ length chars.now) × (n < length offsets.now) × Characters n chars.now × (base + n ≤ longest_text) }
-    ensures { (b : Book) (place : Base) → SeenAs b (trie_lent roots slots) used
-        → Placed place base (take n (was chars)) (was offsets)
-        → cut_answer result (became tokens) ≡ put_walks place (take n (was chars)) 0 (written count (was tokens)) (walks_of (words_from b) 0 (take n (was chars))) }
+    ensures { (b : Book) (place : Base) → SeenAs b (trie_of roots.now slots.now) used
+        → Placed place base (take n chars.now) offsets.now
+        → cut_answer result tokens.new ≡ put_walks place (take n chars.now) 0 (written count tokens.old) (walks_of (words_from b) 0 (take n chars.now)) }
 {
     let mut count = count;
     let mut at: usize = 0;

@@ -13,9 +13,11 @@ use book::Head;
 use cases::output::{print, print_command};
 use cases::script;
 use cuts::{Cut, TokenizeMode};
+use std::io;
 
 // The line of a cut into words, with the areas that it leaves.
 fn print_tokenized(
+    rt: &impl Print,
     command: &[u8],
     answer: Cut,
     head: Head,
@@ -30,7 +32,7 @@ fn print_tokenized(
     edge_ends: &[u32],
     edge_records: &[u32],
     tokens: &[u32],
-) {
+) -> io::Result<()> {
     let unchanged = kept::are_sevens(
         chars,
         offsets,
@@ -42,6 +44,7 @@ fn print_tokenized(
         edge_records,
     );
     line::print_answer(
+        rt,
         command,
         answer,
         tokens,
@@ -50,11 +53,12 @@ fn print_tokenized(
         slots,
         b"work and edges",
         unchanged,
-    );
+    )
 }
 
 // Cuts in the areas that are lent, and prints the line. The sentence starts at a field of the command.
 fn tokenize_in(
+    rt: &impl Print,
     head: Head,
     roots: &[u64],
     slots: &[u64],
@@ -72,7 +76,7 @@ fn tokenize_in(
     edge_ends: &mut [u32],
     edge_records: &mut [u32],
     tokens: &mut [u32],
-) {
+) -> io::Result<()> {
     let answer = tokenize::tokenize(
         head,
         roots,
@@ -92,6 +96,7 @@ fn tokenize_in(
         tokens,
     );
     print_tokenized(
+        rt,
         command,
         answer,
         head,
@@ -106,11 +111,12 @@ fn tokenize_in(
         edge_ends,
         edge_records,
         tokens,
-    );
+    )
 }
 
 // `cut` and `find`, and `slices` whose lengths stand apart, each in a field of its own.
 fn tokenize(
+    rt: &impl Print,
     head: Head,
     roots: &[u64],
     slots: &[u64],
@@ -119,7 +125,7 @@ fn tokenize(
     command: &[u8],
     apart: u64,
     mode: TokenizeMode,
-)
+) -> io::Result<()>
     requires { apart ≤ 1 }
 {
     let chars = script::length(command, 1, 64);
@@ -141,6 +147,7 @@ fn tokenize(
     let mut edge_record_area = [7u32; 64];
     let mut token_area = [7u32; 384];
     tokenize_in(
+        rt,
         head,
         roots,
         slots,
@@ -158,11 +165,12 @@ fn tokenize(
         &mut edge_end_area[..edge_ends],
         &mut edge_record_area[..edge_records],
         &mut token_area[..tokens],
-    );
+    )
 }
 
 // As `tokenize_in`, for all words.
 fn cut_all_in(
+    rt: &impl Print,
     head: Head,
     roots: &[u64],
     slots: &[u64],
@@ -172,7 +180,7 @@ fn cut_all_in(
     chars: &mut [u32],
     offsets: &mut [u64],
     tokens: &mut [u32],
-) {
+) -> io::Result<()> {
     let answer = cut_all::cut_all(
         head,
         roots,
@@ -186,6 +194,7 @@ fn cut_all_in(
     );
     let unchanged = kept::is_sevens(chars) & kept::is_sevens_u64(offsets);
     line::print_answer(
+        rt,
         command,
         answer,
         tokens,
@@ -194,18 +203,19 @@ fn cut_all_in(
         slots.len() / 2,
         b"work",
         unchanged,
-    );
+    )
 }
 
 // `all`
 fn cut_all(
+    rt: &impl Print,
     head: Head,
     roots: &[u64],
     slots: &[u64],
     records: &[u64],
     logarithms: &[f64],
     command: &[u8],
-) {
+) -> io::Result<()> {
     let chars = script::length(command, 1, 64);
     let offsets = script::length(command, 2, 64);
     let tokens = script::length(command, 3, 384);
@@ -213,6 +223,7 @@ fn cut_all(
     let mut offset_area = [7u64; 64];
     let mut token_area = [7u32; 384];
     cut_all_in(
+        rt,
         head,
         roots,
         slots,
@@ -222,19 +233,19 @@ fn cut_all(
         &mut char_area[..chars],
         &mut offset_area[..offsets],
         &mut token_area[..tokens],
-    );
+    )
 }
 
 // `head`
-fn stored_head(command: &[u8]) -> Head {
-    print_command(command);
-    print(b": stored\n");
-    Head {
+fn stored_head(rt: &impl Print, command: &[u8]) -> io::Result<Head> {
+    print_command(rt, command)?;
+    print(rt, b": stored\n")?;
+    Ok(Head {
         records: script::number(command, 1),
         slots: script::number(command, 2),
         next: script::number(command, 3),
         total: script::number(command, 4),
-    }
+    })
 }
 
 // 1 where each slice has a field of its own, else 0.
@@ -254,22 +265,24 @@ fn mode(name: u8) -> TokenizeMode {
 
 // Plays one command. The answer is the head for the next one.
 fn turn(
+    rt: &impl Print,
     head: Head,
     roots: &[u64],
     slots: &[u64],
     records: &[u64],
     logarithms: &[f64],
     command: &[u8],
-) -> Head {
+) -> io::Result<Head> {
     let name = script::name(command);
     if name == b'h' {
-        return stored_head(command);
+        return stored_head(rt, command);
     }
     if name == b'a' {
-        cut_all(head, roots, slots, records, logarithms, command);
-        return head;
+        cut_all(rt, head, roots, slots, records, logarithms, command)?;
+        return Ok(head);
     }
     tokenize(
+        rt,
         head,
         roots,
         slots,
@@ -278,25 +291,27 @@ fn turn(
         command,
         apart(name),
         mode(name),
-    );
-    head
+    )?;
+    Ok(head)
 }
 
 // The cuts of a case one after the other.
 pub fn play(
+    rt: &impl Print,
     head: Head,
     roots: &[u64],
     slots: &[u64],
     records: &[u64],
     logarithms: &[f64],
     cuts: &[u8],
-) {
+) -> io::Result<()> {
     let mut head = head;
     let mut at: usize = 0;
     while at < cuts.len() {
         let end = script::find(cuts, at, b';');
         let next = script::next_command(cuts, at);
-        head = turn(head, roots, slots, records, logarithms, &cuts[at..end]);
+        head = turn(rt, head, roots, slots, records, logarithms, &cuts[at..end])?;
         at = next;
     }
+    Ok(())
 }

@@ -2,6 +2,8 @@
 //! themselves.
 //!
 //! Proved here is only that each function is safe and ends.
+#![tactic(auto)]
+
 pub mod cutting;
 mod kept;
 mod line;

@@ -3,6 +3,7 @@
 use book::Head;
 use cases::output::{print, print_command, print_next};
 use cuts::Cut;
+use std::io;
 
 // Whether a cut has not begun, by its number and the head: 8 is met before the cut only where the head is damaged.
 fn has_not_begun(number: u32, head: Head, records: usize, slots: usize) -> bool {
@@ -20,46 +21,59 @@ fn wide(x: u32) -> u64 {
 }
 
 // A number of a token area, with a bar before the first of each token.
-fn print_place(n: u32, i: usize) {
+fn print_place(rt: &impl Print, n: u32, i: usize) -> io::Result<()> {
     if i % cuts::TOKEN_WIDTH == 0 {
-        print(b" |");
+        print(rt, b" |")?;
     }
-    print_next(wide(n));
+    print_next(rt, wide(n))
 }
 
-fn print_tokens(tokens: &[u32]) {
+fn print_tokens(rt: &impl Print, tokens: &[u32]) -> io::Result<()> {
     let mut i = 0;
     while i < tokens.len() {
-        print_place(tokens[i], i);
+        print_place(rt, tokens[i], i)?;
         i += 1;
     }
+    Ok(())
 }
 
 // The line up to its end.
-fn print_cut(command: &[u8], number: u32, count: usize, tokens: &[u32]) {
-    print_command(command);
-    print(b":");
-    print_next(number as u64);
-    print(b", tokens");
-    print_next(count as u64);
-    print_tokens(tokens);
+fn print_cut(
+    rt: &impl Print,
+    command: &[u8],
+    number: u32,
+    count: usize,
+    tokens: &[u32],
+) -> io::Result<()> {
+    print_command(rt, command)?;
+    print(rt, b":")?;
+    print_next(rt, number as u64)?;
+    print(rt, b", tokens")?;
+    print_next(rt, count as u64)?;
+    print_tokens(rt, tokens)
 }
 
 // The end of the line, which says where a cut has not begun whether what is named stayed as it was.
-fn print_kept(has_not_begun: bool, name: &[u8], unchanged: bool) {
+fn print_kept(
+    rt: &impl Print,
+    has_not_begun: bool,
+    name: &[u8],
+    unchanged: bool,
+) -> io::Result<()> {
     if has_not_begun {
-        print(b"; ");
-        print(name);
+        print(rt, b"; ")?;
+        print(rt, name)?;
         if unchanged {
-            print(b" unchanged");
+            print(rt, b" unchanged")?;
         } else {
-            print(b" changed");
+            print(rt, b" changed")?;
         }
     }
-    print(b"\n");
+    print(rt, b"\n")
 }
 
 pub fn print_answer(
+    rt: &impl Print,
     command: &[u8],
     answer: Cut,
     tokens: &[u32],
@@ -68,9 +82,14 @@ pub fn print_answer(
     slots: usize,
     name: &[u8],
     unchanged: bool,
-) {
+) -> io::Result<()> {
     let outcome = answer.outcome;
     let number = book::number_of(outcome);
-    print_cut(command, number, answer.count, tokens);
-    print_kept(has_not_begun(number, head, records, slots), name, unchanged);
+    print_cut(rt, command, number, answer.count, tokens)?;
+    print_kept(
+        rt,
+        has_not_begun(number, head, records, slots),
+        name,
+        unchanged,
+    )
 }

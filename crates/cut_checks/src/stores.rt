@@ -1,13 +1,15 @@
 //! The stores of a case: those of `cases::stores`, and `floats`, which stores logarithms.
 use cases::output::print;
 use cases::{output, script, stores};
+use std::io;
 
-pub fn print_stores(stores: &[u8]) {
+pub fn print_stores(rt: &impl Print, stores: &[u8]) -> io::Result<()> {
     if 0 < stores.len() {
-        print(b"stored ");
-        output::print_command(stores);
-        print(b"\n");
+        print(rt, b"stored ")?;
+        output::print_command(rt, stores)?;
+        print(rt, b"\n")?;
     }
+    Ok(())
 }
 
 // Those of the stores that concern the root table.

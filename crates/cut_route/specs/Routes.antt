@@ -1,6 +1,6 @@
 -- A block's route in the code's slices, and what its tokens bring by the mode, in the terms of `cuts/specs/Tokens.antt`.
 -- Assumes nothing.
-use Rattle.std.specs.Prelude.{ℕ, ◌+◌, ◌≤◌, ◌<◌, Bool, ◌&&◌, List, [], ◌∷◌, ◌≡◌, eqb, get_or}
+use Rattle.std.specs.Prelude.{ℕ, ◌+◌, ◌≤◌, ◌<◌, ◌&&◌, List, [], ◌∷◌, ◌≡◌, eqb, get_or}
 use Rattle.classes.specs.Blocks.{ascii_letter_or_digit}
 use Rattle.book.specs.Prefixes.{Edge}
 use Rattle.route.specs.Route.{Best}

@@ -1,8 +1,9 @@
 //! The tokens of a block along its route (lib.rs, `cut_route`): each step is one, and steps of one ASCII letter or digit join.
 //!
 //! What a token brings goes by the mode: itself, or in search its parts and the words in it too.
+#![tactic(auto)]
+
 ghost use Rattle.std.specs.Prelude.{◌≡◌, List, ℕ, ◌+◌, ◌≤◌, ◌<◌, Float, length, take};
-ghost use Rattle.trie.specs.Lent.{was, became};
 ghost use Rattle.book.specs.Returns.{longest_text};
 ghost use Rattle.route.specs.Route.{Best};
 ghost use Rattle.route.specs.Slices.{rows_of};
@@ -18,7 +19,7 @@ use cuts::{Cut, TokenizeMode};
 // The end of the run of route steps of one ASCII letter or digit that goes on at a position.
 fn letters_end(chars: &[u32], ends: &[u32], n: usize, from: usize) -> usize
     requires { (from ≤ n) × (n ≤ length chars.now) × (n ≤ length ends.now) }
-    ensures { letter_run (was chars) (was ends) n from result }
+    ensures { letter_run chars.now ends.now n from result }
 {
     let mut y = from;
     while y < n {
@@ -48,9 +49,9 @@ fn emit_token(
 ) -> Cut
     requires x_le_y { (x ≤ y) × (y ≤ length chars.now) × (y < length offsets.now) × (y < length starts.now) × (base + y ≤ longest_text) }
     requires ends_rise { EndsRise starts.now edge_ends.now y }
-    ensures { (place : Base) (n : ℕ) (records : List ℕ) (logarithms : List Float) → y ≤ n → Placed place base (take n (was chars)) (was offsets)
-        → cut_answer result (became tokens) ≡ put_spans place (take n (was chars)) (written count (was tokens))
-        (token_by mode (take n (was chars)) (rows_of (was starts) (was edge_ends) records logarithms n) (span x y)) }
+    ensures { (place : Base) (n : ℕ) (records : List ℕ) (logarithms : List Float) → y ≤ n → Placed place base (take n chars.now) offsets.now
+        → cut_answer result tokens.new ≡ put_spans place (take n chars.now) (written count tokens.old)
+        (token_by mode (take n chars.now) (rows_of starts.now edge_ends.now records logarithms n) (span x y)) }
 {
     match mode {
         TokenizeMode::Default => tokens::emit_span(offsets, base, x, y, tokens, count),
@@ -76,9 +77,9 @@ pub fn cut_route(
     requires n_in_bounds { (n ≤ length chars.now) × (n < length offsets.now) × (n < length starts.now) × (n ≤ length ends.now) × (base + n ≤ longest_text) }
     requires forward { Forward n ends.now × EndsRise starts.now edge_ends.now n }
     ensures { (place : Base) (route : List Best) (records : List ℕ) (logarithms : List Float)
-        → Placed place base (take n (was chars)) (was offsets) → HasEnds n route (was ends)
-        → cut_answer result (became tokens) ≡ put_spans place (take n (was chars)) (written count (was tokens))
-        (tokens_by mode (take n (was chars)) (rows_of (was starts) (was edge_ends) records logarithms n) (cut_route (take n (was chars)) route)) }
+        → Placed place base (take n chars.now) offsets.now → HasEnds n route ends.now
+        → cut_answer result tokens.new ≡ put_spans place (take n chars.now) (written count tokens.old)
+        (tokens_by mode (take n chars.now) (rows_of starts.now edge_ends.now records logarithms n) (cut_route (take n chars.now) route)) }
 {
     let mut count = count;
     let mut x: usize = 0;

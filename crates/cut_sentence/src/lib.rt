@@ -1,7 +1,8 @@
 //! What `tokenize`, `cut` and `cut_for_search` have in common: the tests of a sentence and of what is lent, and then its blocks.
+#![tactic(auto)]
+
 ghost use Rattle.std.specs.Prelude.{◌≡◌, false, ◌≤◌};
-ghost use Rattle.trie.specs.Lent.{was, became};
-ghost use Rattle.book.specs.Areas.{book_lent};
+ghost use Rattle.book.specs.Areas.{book_in};
 ghost use Rattle.cuts.specs.Slices.{Unchanged};
 ghost use Rattle.cuts.specs.Cuts.{cut_answer, tested_book, begins, tokenize_of};
 ghost use Rattle.cut_sentence.specs.Areas.{work_of, room_of};
@@ -35,11 +36,11 @@ pub fn cut_sentence(
 ) -> Cut
     requires { (work ≤ work_of chars.old offsets.old starts.old scores.old ends.old route_records.old)
         × (room ≤ room_of edge_ends.old edge_records.old) }
-    ensures tokens_value { cut_answer result (became tokens)
-        ≡ tokenize_of mode (book_lent head roots slots records logarithms) work room (was tokens) (was sentence) }
-    ensures unchanged { begins (tested_book (book_lent head roots slots records logarithms)) work (was tokens) (was sentence) ≡ false
-        → Unchanged chars × Unchanged offsets × Unchanged starts × Unchanged scores × Unchanged ends × Unchanged route_records
-        × Unchanged edge_ends × Unchanged edge_records }
+    ensures tokens_value { cut_answer result tokens.new
+        ≡ tokenize_of mode (book_in head roots.now slots.now records.now logarithms.now) work room tokens.old sentence.now }
+    ensures unchanged { begins (tested_book (book_in head roots.now slots.now records.now logarithms.now)) work tokens.old sentence.now ≡ false
+        → Unchanged chars.old chars.new × Unchanged offsets.old offsets.new × Unchanged starts.old starts.new × Unchanged scores.old scores.new × Unchanged ends.old ends.new × Unchanged route_records.old route_records.new
+        × Unchanged edge_ends.old edge_ends.new × Unchanged edge_records.old edge_records.new }
 {
     // What is only read is lent anew, so that the compiler reads each slice's place and length once, at the call, and passes
     // the two. Else it passes where they are kept, and they are read there each time.

@@ -4,44 +4,44 @@ ghost use Rattle.answers.specs.Answers.{longest_answer};
 ghost use Rattle.input_lines.specs.Input.{most_kept};
 
 use book::Head;
-use libc::{STDERR_FILENO, STDIN_FILENO, STDOUT_FILENO};
+use std::io::Read;
 
 // The bytes that are read at once, and those that are written at once, if so many are there.
 const BLOCK: usize = 65536;
 
 // How far the program has come: the book's head, how many bytes of an unfinished line are kept, and whether it goes on.
-#[derive(Drop)]
+#[derive(Clone, Copy)]
 pub struct State {
     head: Head,
     kept: usize,
     more: bool,
 }
 
-// Says on standard error why the program ends.
-fn complain(text: &[u8]) {
-    io::write_all(STDERR_FILENO, text);
+// Says on standard error why the program ends. Where that cannot be written either, nothing is left to do.
+fn complain(rt: &impl Eprint, text: &str) {
+    let _ = rt.eprintln(text);
 }
 
 // Writes the answers that wait, and answers whether that went well.
-fn write_answers(out: &[u8], end: usize) -> bool
+fn write_answers(rt: &(impl Print + Eprint), out: &[u8], end: usize) -> bool
     requires { end ≤ length out.now }
 {
-    if io::write_all(STDOUT_FILENO, &out[..end]) {
+    if rt.write_all(&out[..end]).is_ok() {
         return true;
     }
-    complain(b"cutlines: standard output cannot be written\n");
+    complain(rt, "cutlines: standard output cannot be written");
     false
 }
 
 // Where the next answer goes, and whether the output can be written.
-#[derive(Drop)]
+#[derive(Clone, Copy)]
 struct Place {
     at: usize,
     written: bool,
 }
 
 // The place after the answers that wait or, where the longest answer would not fit, the start, once these are written.
-fn next_place(out: &[u8], end: usize) -> Place
+fn next_place(rt: &(impl Print + Eprint), out: &[u8], end: usize) -> Place
     requires { (end ≤ length out.now) × (longest_answer ≤ length out.now) }
     ensures { result.at + longest_answer ≤ length out.now }
 {
@@ -53,12 +53,13 @@ fn next_place(out: &[u8], end: usize) -> Place
     }
     Place {
         at: 0,
-        written: write_answers(out, end),
+        written: write_answers(rt, out, end),
     }
 }
 
 // Answers the lines that end in a piece of the input, and keeps the beginning of the one that does not.
 fn answer_lines(
+    rt: &(impl Print + Eprint),
     head: Head,
     roots: &mut [u64],
     slots: &mut [u64],
@@ -81,7 +82,7 @@ fn answer_lines(
         kept = taken.kept;
         at = taken.next;
         if taken.whole {
-            let place = next_place(&out, end);
+            let place = next_place(rt, &out, end);
             if !place.written {
                 return State {
                     head,
@@ -107,33 +108,31 @@ fn answer_lines(
     State {
         head,
         kept,
-        more: write_answers(&out, end),
+        more: write_answers(rt, &out, end),
     }
 }
 
 // A block of the input: how many bytes it has, and whether it is the last.
-#[derive(Drop)]
+#[derive(Clone, Copy)]
 struct Block {
     bytes: usize,
     last: bool,
 }
 
 // Reads what there is of the input; 0 bytes are its end, or a read that failed. At the end a line that has no LF yet gets one.
-fn read_block(space: &mut [u8], kept: usize) -> Block
+fn read_block(rt: &impl Eprint, stdin: &mut impl Read, space: &mut [u8], kept: usize) -> Block
     requires { 0 < length space.old }
     ensures { result.bytes ≤ length space.new }
 {
-    let got = libc::read(STDIN_FILENO, space);
-    let bytes = io::count(got, space);
-    if 0 < bytes {
-        return Block { bytes, last: false };
-    }
-    if got < 0 {
-        complain(b"cutlines: standard input cannot be read\n");
+    let Ok(bytes) = stdin.read(space) else {
+        complain(rt, "cutlines: standard input cannot be read");
         return Block {
             bytes: 0,
             last: true,
         };
+    };
+    if 0 < bytes {
+        return Block { bytes, last: false };
     }
     if kept == 0 {
         return Block {
@@ -150,6 +149,8 @@ fn read_block(space: &mut [u8], kept: usize) -> Block
 
 // Answers the whole input.
 pub fn answer_all(
+    rt: &(impl Print + Eprint),
+    stdin: &mut impl Read,
     head: Head,
     roots: &mut [u64],
     slots: &mut [u64],
@@ -164,9 +165,10 @@ pub fn answer_all(
     let mut blocks: u64 = 0xffff_ffff_ffff_ffff;
     while 0 < blocks {
         blocks -= 1;
-        let block = read_block(&mut space, kept);
+        let block = read_block(rt, stdin, &mut space, kept);
         let end = block.bytes;
         let state = answer_lines(
+            rt,
             head,
             roots,
             slots,

@@ -5,6 +5,8 @@
 //! byte, with the book that is left (`answer_line::answer_line`). Here the input is read and the answers are written, in blocks;
 //! that this part is safe, and that each of its steps ends, is what is proved of it. Before more input is waited for, every
 //! answer is written.
+#![tactic(auto)]
+
 mod input;
 
 use book::Prepared;
@@ -17,7 +19,7 @@ const SLOTS: usize = 1024;
 const RECORDS: usize = 256;
 
 // One book serves the whole run.
-fn main() {
+fn main(rt: HostRuntime) {
     let mut roots = [0u64; ROOT_ENTRIES];
     let mut slots = [0u64; 2 * SLOTS];
     let mut records = [0u64; RECORDS];
@@ -30,5 +32,13 @@ fn main() {
     ) else {
         return;
     };
-    input::answer_all(head, &mut roots, &mut slots, &mut records, &mut logarithms);
+    input::answer_all(
+        &rt,
+        &mut rt.stdin(),
+        head,
+        &mut roots,
+        &mut slots,
+        &mut records,
+        &mut logarithms,
+    );
 }

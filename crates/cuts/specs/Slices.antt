@@ -2,10 +2,7 @@
 -- step of a cut to the next, its characters and the place of each of them.
 -- Assumes nothing.
 use Rattle.std.specs.Prelude.{ℕ, ◌+◌, ◌*◌, ◌^◌, ◌≤◌, ◌<◌, Bool, cond, List, [], ◌∷◌, ◌≡◌, ltb, length, get_or, take}
-use Rattle.std.specs.Borrow.{Bor}
-use denote.Triple.Both.{Both}
 use Rattle.trie.specs.Trie.{CharTrie}
-use Rattle.trie.specs.Lent.{was, became}
 use Rattle.book.specs.Returns.{Book, longest_text}
 use Rattle.utf8.specs.Encoding.{byte_length}
 use Rattle.utf8.specs.Utf16.{unit_length}
@@ -21,8 +18,8 @@ shortest a [] = a
 shortest a (b ∷ bs) = shortest (shorter a b) bs
 
 -- a lent slice is left as it was
-abbrev pub Unchanged : {X : Type 0} → Both (Bor X) (Bor X) → Type 0
-Unchanged s = became s ≡ was s
+abbrev pub Unchanged : {X : Type 0} → X → X → Type 0
+Unchanged old new = new ≡ old
 
 -- what a walk is lent of a book: the trie, and how many records are used
 pub record SeenAs (b : Book) (trie : CharTrie) (used : ℕ) : Type 0 where

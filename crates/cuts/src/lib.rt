@@ -2,24 +2,26 @@
 //!
 //! The Rust's `Token` borrows its word from the sentence. Here it is the word's place, counted in scalar values, in bytes and in
 //! UTF-16 code units.
+#![tactic(auto)]
+
 ghost use Rattle.std.specs.Prelude.{◌≡◌, ◌/◌, ◌%◌, ◌^◌};
 
 use book::Outcome;
 
 // Where a token starts and ends, counted in scalar values.
-#[derive(Drop)]
+#[derive(Clone, Copy)]
 pub struct CharOffsets(pub u32, pub u32);
 
 // Where a token starts and ends, counted in bytes.
-#[derive(Drop)]
+#[derive(Clone, Copy)]
 pub struct ByteOffsets(pub u32, pub u32);
 
 // Where a token starts and ends, counted in UTF-16 code units.
-#[derive(Drop)]
+#[derive(Clone, Copy)]
 pub struct Utf16Offsets(pub u32, pub u32);
 
 // A word of a sentence, by its place. It is written pair after pair (`tokens::put_token`).
-#[derive(Drop)]
+#[derive(Clone, Copy)]
 pub struct Token {
     pub chars: CharOffsets,
     pub bytes: ByteOffsets,
@@ -48,14 +50,14 @@ pub fn utf16_offset(place: u64) -> u32
 }
 
 // What a cut answers, of a whole sentence or of a part: its outcome, and the tokens written so far.
-#[derive(Drop)]
+#[derive(Clone, Copy)]
 pub struct Cut {
     pub outcome: Outcome,
     pub count: usize,
 }
 
 // Which cut `tokenize` chooses.
-#[derive(Drop)]
+#[derive(Clone, Copy)]
 pub enum TokenizeMode {
     // `cut`
     Default,

@@ -47,14 +47,14 @@ by_reach b (Reached p []) frequency = go (word_at b.head.records b.trie p)
     go (Record n) = refl
     go Bad = refl
 
-by_room : (b : Book) (o : Option (List ℕ)) (frequency : ℕ) → IsSome o → by_room b (room_of b.head.records b.trie o) frequency ≡ absent_text b o frequency
+by_room_lem : (b : Book) (o : Option (List ℕ)) (frequency : ℕ) → IsSome o → by_room b (room_of b.head.records b.trie o) frequency ≡ absent_text b o frequency
 unfolding absent_text room_from
-by_room b none frequency h = absurd h
-by_room b (some cs) frequency h = by_reach b (reach b.trie Root cs) frequency
+by_room_lem b none frequency h = absurd h
+by_room_lem b (some cs) frequency h = by_reach b (reach b.trie Root cs) frequency
 
 pub decided_by_room : (b : Book) (o : Option (List ℕ)) (frequency : ℕ) (r : Room) → IsSome o → r ≡ room_of b.head.records b.trie o
     → by_room b r frequency ≡ absent_text b o frequency
-decided_by_room b o frequency r h e = ap (λ (x : Room). by_room b x frequency) e ∙ by_room b o frequency h
+decided_by_room b o frequency r h e = ap (λ (x : Room). by_room b x frequency) e ∙ by_room_lem b o frequency h
 
 -- ---- the steps that a word takes are no more than its bytes
 
@@ -109,10 +109,10 @@ by_got b o (Held n) frequency = decide_held b n frequency
 by_got b o Absent frequency = absent_text b o frequency
 by_got b o Got.Damaged frequency = Refuse Outcome.Damaged
 
-by_got : (b : Book) (o : Option (List ℕ)) (frequency : ℕ) → IsSome o → by_got b o (got_of b.head.records b.trie o) frequency ≡ decide_text b o frequency
+by_got_lem : (b : Book) (o : Option (List ℕ)) (frequency : ℕ) → IsSome o → by_got b o (got_of b.head.records b.trie o) frequency ≡ decide_text b o frequency
 unfolding decide_text got_of absent_text decide
-by_got b none frequency h = absurd h
-by_got b (some cs) frequency h = go (get_of b.head.records b.trie cs) refl
+by_got_lem b none frequency h = absurd h
+by_got_lem b (some cs) frequency h = go (get_of b.head.records b.trie cs) refl
   where
     go : (g : Got) → get_of b.head.records b.trie cs ≡ g → by_got b (some cs) (get_of b.head.records b.trie cs) frequency ≡ decide b cs frequency
     go (Held n) e = rw (e, decide)
@@ -121,4 +121,4 @@ by_got b (some cs) frequency h = go (get_of b.head.records b.trie cs) refl
 
 pub decided_by_got : (b : Book) (o : Option (List ℕ)) (frequency : ℕ) (g : Got) → IsSome o → g ≡ got_of b.head.records b.trie o
     → by_got b o g frequency ≡ decide_text b o frequency
-decided_by_got b o frequency g h e = ap (λ (x : Got). by_got b o x frequency) e ∙ by_got b o frequency h
+decided_by_got b o frequency g h e = ap (λ (x : Got). by_got b o x frequency) e ∙ by_got_lem b o frequency h

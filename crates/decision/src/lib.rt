@@ -1,9 +1,10 @@
 //! How a word enters a book: the decision, which tests everything that document 01 tests, in its order, and writes nothing.
+#![tactic(auto)]
+
 ghost use Rattle.std.specs.Prelude.{◌≡◌, false, List, ◌/◌, ◌≤◌, Float, length};
 ghost use Rattle.std.proofs.Math.Option.{IsSome};
 ghost use Rattle.utf8.specs.Text.{chars_of};
-ghost use Rattle.trie.specs.Trie.{SlotTable};
-ghost use Rattle.trie.specs.Lent.{was, trie_lent};
+ghost use Rattle.trie.specs.Trie.{trie_of, SlotTable};
 ghost use Rattle.book.specs.Areas.{book_of};
 ghost use Rattle.book.specs.Returns.{longest_text, greatest_total, most_records, head_damaged};
 ghost use Rattle.decision.specs.Texts.{absent_text, decide_text};
@@ -26,7 +27,7 @@ fn decide_absent(
     requires slots_value { head_damaged head (length records.now) (length slots.now / 2) ≡ false }
     requires some { IsSome (chars_of word.now) × (length word.now ≤ longest_text) × (frequency ≤ greatest_total) }
     ensures { (logarithms : List Float) → result
-        ≡ absent_text (book_of head (trie_lent roots slots) (was records) logarithms) (chars_of (was word)) frequency }
+        ≡ absent_text (book_of head (trie_of roots.now slots.now) records.now logarithms) (chars_of word.now) frequency }
 {
     let used = head.records as usize;
     match word_walk::room_for(roots, slots, shift, used, word) {
@@ -68,7 +69,7 @@ pub fn decide(
     requires slots_value { head_damaged head (length records.now) (length slots.now / 2) ≡ false }
     requires some { IsSome (chars_of word.now) × (length word.now ≤ longest_text) × (frequency ≤ greatest_total) × (length records.now ≤ most_records) }
     ensures { (logarithms : List Float) → result
-        ≡ decide_text (book_of head (trie_lent roots slots) (was records) logarithms) (chars_of (was word)) frequency }
+        ≡ decide_text (book_of head (trie_of roots.now slots.now) records.now logarithms) (chars_of word.now) frequency }
 {
     let used = head.records as usize;
     match word_walk::get(roots, slots, shift, used, word) {

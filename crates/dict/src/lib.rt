@@ -2,9 +2,10 @@
 //!
 //! The Rust grows its tables. Here a book is four lent slices and a head by value, which goes in and comes back with the
 //! answer. The sizes of what is lent are tested, and nothing is required of the caller.
+#![tactic(auto)]
+
 ghost use Rattle.std.specs.Prelude.{◌≡◌};
-ghost use Rattle.trie.specs.Lent.{was};
-ghost use Rattle.book.specs.Areas.{book_lent, book_left};
+ghost use Rattle.book.specs.Areas.{book_in};
 ghost use Rattle.book.specs.Enter.{load_answer, load_of};
 ghost use Rattle.book.specs.Numbers.{loaded_returns, load_returns};
 
@@ -12,6 +13,7 @@ use book::{Head, Outcome};
 use load_lines::Loaded;
 
 // Loads a dictionary by adding its entries to the book: a word, its frequency and anything more on each line.
+#[tactic(auto, using(crate::proofs::Loads::long_refused, crate::proofs::Loads::long_returned))]
 pub fn load_dict(
     head: Head,
     roots: &mut [u64],
@@ -20,10 +22,10 @@ pub fn load_dict(
     logarithms: &mut [f64],
     text: &[u8],
 ) -> Loaded
-    ensures logarithms_value { load_answer result.outcome result.line (book_left result.head roots slots records logarithms)
-        ≡ load_of (book_lent head roots slots records logarithms) (was text) }
+    ensures logarithms_value { load_answer result.outcome result.line (book_in result.head roots.new slots.new records.new logarithms.new)
+        ≡ load_of (book_in head roots.old slots.old records.old logarithms.old) text.now }
     ensures line_value { loaded_returns result.outcome result.line
-        ≡ load_returns (book_lent head roots slots records logarithms) (was text) }
+        ≡ load_returns (book_in head roots.old slots.old records.old logarithms.old) text.now }
 {
     if !book::is_allowed(roots.len(), slots.len(), records.len(), logarithms.len()) {
         return Loaded {

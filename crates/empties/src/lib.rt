@@ -1,8 +1,9 @@
 //! Whether a new word finds the slots that it needs. 01 asks for so many empty slots after the test of the head's counts, which
 //! may be wrong in a book that was not filled here; so they are counted, no further than has to be.
+#![tactic(auto)]
+
 ghost use Rattle.std.specs.Prelude.{◌≡◌, ◌-◌, ◌/◌, ◌%◌, ◌≤◌, leb, length};
 ghost use Rattle.trie.specs.Trie.{keys_of};
-ghost use Rattle.trie.specs.Lent.{was};
 ghost use Rattle.trie.specs.SlotCounts.{most_slots};
 ghost use Rattle.book.specs.Returns.{greatest_next};
 ghost use Rattle.book.specs.Enter.{empty_slots};
@@ -18,7 +19,7 @@ const PARTS: u64 = 0x1_0000_0000;
 // How many empty slots are still wanted after these, of so many. It looks no further than it has to.
 fn still_wanted(slots: &[u64], count: u64) -> u64
     requires { length slots.now % 2 ≡ 0 }
-    ensures { result ≡ count - empty_slots (keys_of (was slots)) }
+    ensures { result ≡ count - empty_slots (keys_of slots.now) }
 {
     let mut left = count;
     let mut i = 0;
@@ -37,7 +38,7 @@ fn still_wanted(slots: &[u64], count: u64) -> u64
 // Whether so many slots are empty, or more: looked for from the start on, and then before it.
 pub fn has_empty(slots: &[u64], start: usize, count: u64) -> bool
     requires { (start ≤ length slots.now / 2) × (length slots.now % 2 ≡ 0) }
-    ensures { result ≡ leb count (empty_slots (keys_of (was slots))) }
+    ensures { result ≡ leb count (empty_slots (keys_of slots.now)) }
 {
     let cut = 2 * start;
     let left = still_wanted(&slots[cut..], count);

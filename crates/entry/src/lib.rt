@@ -1,12 +1,13 @@
 //! A word enters a book: first the decision, which tests everything and writes nothing (`decision`), then the write, which refuses
 //! nothing. A refused word leaves no trace.
+#![tactic(auto)]
+
 ghost use Rattle.std.specs.Prelude.{◌≡◌, true, ◌-◌, ◌/◌, ◌≤◌, length};
 ghost use Rattle.std.proofs.Math.Option.{IsSome};
 ghost use Rattle.utf8.specs.Text.{chars_of};
 ghost use Rattle.score.specs.Logarithm.{log_float};
 ghost use Rattle.trie.specs.Trie.{log2};
-ghost use Rattle.trie.specs.Lent.{was};
-ghost use Rattle.book.specs.Areas.{areas_allowed, book_lent, book_left};
+ghost use Rattle.book.specs.Areas.{areas_allowed, book_in};
 ghost use Rattle.book.specs.declared.Outcome.TheVariants.{Done};
 ghost use Rattle.book.specs.Returns.{longest_text};
 ghost use Rattle.book.specs.Enter.{with_total};
@@ -15,7 +16,7 @@ ghost use Rattle.entry.specs.Texts.{enter_answer, enter_text};
 use book::{Decision, Head, Outcome};
 
 // What entering a word answers: 0 or the refusal, and the head that follows.
-#[derive(Drop)]
+#[derive(Clone, Copy)]
 pub struct Entered {
     pub outcome: Outcome,
     pub head: Head,
@@ -51,8 +52,8 @@ pub fn load_entry(
     requires logarithms_value { areas_allowed (length roots.old) (length slots.old) (length records.old) (length logarithms.old) ≡ true }
     requires shift_value { (shift ≡ 64 - log2 (length slots.old / 2)) × IsSome (chars_of word.now) × (length word.now ≤ longest_text)
         × (logarithm ≡ log_float frequency) }
-    ensures { enter_answer result.outcome (book_left result.head roots slots records logarithms)
-        ≡ enter_text (book_lent head roots slots records logarithms) (chars_of (was word)) frequency }
+    ensures { enter_answer result.outcome (book_in result.head roots.new slots.new records.new logarithms.new)
+        ≡ enter_text (book_in head roots.old slots.old records.old logarithms.old) (chars_of word.now) frequency }
 {
     if book::is_head_damaged(head, records.len(), slots.len() / 2) {
         return Entered {

@@ -2,43 +2,51 @@
 //! and 0 after each word that has no second field, so that a load makes of it what it made of it before that note.
 //!
 //! What is written is proved elsewhere (`sheets::fill`). Here the sheet is read and written; that this part is safe and ends is
-//! what is proved of it. A sheet that cannot be filled gives no output and a line on standard error. A program in Rattle has no
-//! exit status: `tools/fillzero` runs this one, and ends with 1 where it has said something there.
+//! what is proved of it. A sheet that cannot be filled gives no output and a line on standard error, as does an input or output
+//! that fails. `tools/fillzero` builds this program and runs it, and makes of such a line the exit status 1.
+#![tactic(auto)]
+
 ghost use Rattle.std.specs.Prelude.{◌≤◌, length};
 
-use libc::{STDERR_FILENO, STDIN_FILENO, STDOUT_FILENO};
 use sheets::Sheet;
+use std::io::Read;
 
 // One byte more than the longest sheet has, so that a longer one is seen.
 const SPACE: usize = sheets::LONGEST_SHEET + 1;
 
 // What was read: how many bytes, and whether the input could be read.
-#[derive(Drop)]
+#[derive(Clone, Copy)]
 struct Input {
     bytes: usize,
     read: bool,
 }
 
 // Says on standard error why there is no output.
-fn complain(text: &[u8]) {
-    io::write_all(STDERR_FILENO, text);
+fn complain(rt: &impl Eprint, text: &str) {
+    let _ = rt.eprintln(text);
 }
 
 // Reads until the input ends or the space is full.
-fn read_sheet(space: &mut [u8]) -> Input
+fn read_sheet(stdin: &mut impl Read, space: &mut [u8]) -> Input
     ensures { result.bytes ≤ length space.new }
 {
     let mut at: usize = 0;
     while at < space.len() {
-        let got = libc::read(STDIN_FILENO, &mut space[at..]);
-        let bytes = io::count(got, &space[at..]);
-        if bytes == 0 {
-            return Input {
-                bytes: at,
-                read: 0 <= got,
-            };
+        match stdin.read(&mut space[at..]) {
+            Ok(0) => {
+                return Input {
+                    bytes: at,
+                    read: true,
+                };
+            }
+            Ok(bytes) => at += bytes,
+            Err(_) => {
+                return Input {
+                    bytes: at,
+                    read: false,
+                };
+            }
         }
-        at += bytes;
     }
     Input {
         bytes: at,
@@ -46,23 +54,24 @@ fn read_sheet(space: &mut [u8]) -> Input
     }
 }
 
-fn write_sheet(sheet: &[u8]) {
-    if !io::write_all(STDOUT_FILENO, sheet) {
-        complain(b"fillzero: standard output cannot be written\n");
+fn write_sheet(rt: &(impl Print + Eprint), sheet: &[u8]) {
+    match rt.write_all(sheet) {
+        Ok(()) => {}
+        Err(_) => complain(rt, "fillzero: standard output cannot be written"),
     }
 }
 
-fn main() {
+fn main(rt: HostRuntime) {
     let mut space = [0u8; SPACE];
-    let input = read_sheet(&mut space);
+    let input = read_sheet(&mut rt.stdin(), &mut space);
     if !input.read {
-        complain(b"fillzero: standard input cannot be read\n");
+        complain(&rt, "fillzero: standard input cannot be read");
         return;
     }
     let end = input.bytes;
     let mut out = [0u8; sheets::ROOM];
     match sheets::fill(&space[..end], &mut out) {
-        Sheet::Filled(end) => write_sheet(&out[..end]),
-        Sheet::TooLong => complain(b"fillzero: the sheet has more than 65,536 bytes\n"),
+        Sheet::Filled(end) => write_sheet(&rt, &out[..end]),
+        Sheet::TooLong => complain(&rt, "fillzero: the sheet has more than 65,536 bytes"),
     }
 }

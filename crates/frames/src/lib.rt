@@ -2,6 +2,8 @@
 //!
 //! A frame is a line of hexadecimal digits of either case, two for each byte: the kind, and at most 1,024 bytes of text. Here it is
 //! a slice of bytes; who reads it, and what the calls answer, is for others.
+#![tactic(auto)]
+
 ghost use Rattle.std.specs.Prelude.{◌≡◌, ◌+◌, ◌/◌, ◌%◌, ◌≤◌, length, take, drop};
 ghost use Rattle.frames.specs.Frames.{value_of, byte_of, bytes_of, decoded, kind_of, longest, frame, frame_of};
 
@@ -18,7 +20,7 @@ const NO_DIGIT: u32 = 16;
 const NO_BYTE: u32 = 256;
 
 // What is asked.
-#[derive(Drop)]
+#[derive(Clone, Copy)]
 pub enum Kind {
     // 01
     Load,
@@ -33,7 +35,7 @@ pub enum Kind {
 }
 
 // A frame: its kind, and how many bytes of text come after it.
-#[derive(Drop)]
+#[derive(Clone, Copy)]
 pub struct Frame {
     pub kind: Kind,
     pub text: usize,

@@ -1,5 +1,5 @@
 -- What holds of frames and of the input beside their definitions. Proofs: `proofs/Claims.antt`. Assumes nothing.
-use Rattle.std.specs.Prelude.{Bool, true, false, List, [], ◌∷◌, ◌++◌, ◌≡◌, ℕ, take}
+use Rattle.std.specs.Prelude.{true, false, List, [], ◌∷◌, ◌++◌, ◌≡◌, ℕ, take}
 use Rattle.printing.specs.Answers.{line_end}
 use Rattle.frames.specs.Frames.{frame_of}
 use Rattle.input_lines.specs.Input.{most_kept, Taken, taken, line_from}

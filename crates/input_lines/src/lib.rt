@@ -1,5 +1,7 @@
 //! The lines of the program `cutlines`'s input (document 01, "Program `cutlines`"), as they are read piece by piece. Of a line only its
 //! beginning is kept: as much as tells whether it is a frame, and which.
+#![tactic(auto)]
+
 ghost use Rattle.std.specs.Prelude.{◌≡◌, ◌<◌, ◌≤◌, length, take, drop};
 ghost use Rattle.input_lines.specs.Input.{most_kept, taken, line_from};
 
@@ -7,7 +9,7 @@ ghost use Rattle.input_lines.specs.Input.{most_kept, taken, line_from};
 pub const KEPT: usize = 2051;
 
 // A line as far as it has come: how many bytes of it are kept, whether it is whole, and where the input goes on.
-#[derive(Drop)]
+#[derive(Clone, Copy)]
 pub struct Taken {
     pub kept: usize,
     pub whole: bool,

@@ -2,19 +2,15 @@
 -- left. So the extension still to be made stays that of the whole, and where the loop ends it is made. Assumes nothing.
 use Prim.Native.Nat.{ℕ, ◌+◌, ◌-◌, ◌/◌, ◌^◌, ◌≤◌, ◌<◌}
 use mathlib.Core.Path.{◌≡◌, refl, sym, ap, ◌∙◌}
-use mathlib.Core.Logic.{inl, inr}
-use mathlib.Core.List.{List, [], ◌∷◌}
+use mathlib.Core.List.{List, ◌∷◌}
 use mathlib.Core.Option.{IsSome}
 use native.Mathlib.Omega.{arith}
-use denote.Enum.Declared.{tag_of}
-use types.Run.{OneOf}
 use lib.IntN.{ℤ}
 use lib.ListN.{length, drop}
 use Rattle.utf8.specs.declared.Character.TheVariants.{Char}
 use Rattle.utf8.specs.Characters.{character_at}
 use Rattle.utf8.specs.Text.{chars_of, chars_from}
 use Rattle.utf8.proofs.Positions.{inside, still_chars}
-use Rattle.trie.specs.contracts.Step as Step·type
 use Rattle.trie.specs.declared.ParentRef.{ParentRef}
 use Rattle.trie.specs.declared.Step.{Step}
 use Rattle.trie.specs.declared.Step.TheVariants.{At, Nothing, Damaged}
@@ -38,12 +34,11 @@ module _ (t : CharTrie) (p : ParentRef) (c : ℕ) (cs word : List ℕ) (node : �
   unfolding extend_stepped
   extend_on r u q made e = ap (λ (x : Step). extend_stepped (stepped x u) cs (node + 1) number) (sym e) ∙ after_step r u made
 
-  -- of a step that leads nowhere the code knows only that it is one of the other variants
-  extend_stops : (r : Step) (u : CharTrie) → stepped r u ≡ new_step t p c node → OneOf (1 ∷ 2 ∷ []) (tag_of Step·type.the_type r)
+  -- of a step that leads nowhere the code knows only that it is not one to a place
+  extend_stops : (r : Step) (u : CharTrie) → stepped r u ≡ new_step t p c node → ((q : ParentRef) → r ≡ At q → ⊥)
       → u ≡ extend t p word node number
   unfolding extend_stepped
-  extend_stops (At q) u made (inl h) = absurd (omega arith)
-  extend_stops (At q) u made (inr h) = absurd (omega arith)
+  extend_stops (At q) u made h = absurd (h q refl)
   extend_stops Nothing u made h = after_step Nothing u made
   extend_stops Damaged u made h = after_step Damaged u made
 
@@ -85,7 +80,7 @@ module _ {roots₀ slots₀ s : List ℕ} {number : ℤ} {goal : CharTrie} {root
     split : characters (drop at s) ≡ c ∷ characters (drop (at + w) s)
     split = one_more s at here.well_formed c w units read
 
-    pub stops : OneOf (1 ∷ 2 ∷ []) (tag_of Step·type.the_type next) → trie_of roots' slots' ≡ goal
+    pub stops : ((q : ParentRef) → next ≡ At q → ⊥) → trie_of roots' slots' ≡ goal
     stops other = extend_stops t p c _ _ node number split next (trie_of roots' slots') made other ∙ here.same
 
     pub goes_on : {q : ParentRef} {shift : ℕ} → length roots' ≡ length roots → length slots' ≡ length slots → SlotTable (length slots₀) shift → next ≡ At q

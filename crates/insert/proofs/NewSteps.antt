@@ -4,14 +4,10 @@
 use Prim.Native.Nat.{ℕ, ◌+◌, ◌/◌, ◌<◌}
 use mathlib.Core.Path.{◌≡◌, refl, sym, ap, subst, ◌∙◌}
 use mathlib.Core.Bool.{Bool, true, false, cond}
-use mathlib.Core.Logic.{inl, inr}
 use mathlib.Core.List.{List, [], ◌∷◌}
 use native.Mathlib.Omega.{arith}
-use denote.Enum.Declared.{tag_of}
-use types.Run.{OneOf}
 use lib.IntN.{ℤ}
 use lib.ListN.{length}
-use Rattle.trie.specs.contracts.Probe as Probe·type
 use Rattle.trie.specs.declared.ParentRef.{ParentRef}
 use Rattle.trie.specs.declared.ParentRef.TheVariants.{RootEntry, Slot}
 use Rattle.trie.specs.declared.Probe.{Probe}
@@ -28,13 +24,12 @@ use Rattle.insert.specs.Claims.{ExtendStepsThenExtends}
 
 -- ---- one new step, as the code takes it
 
--- a search that ends at no empty slot: of its answer the code knows only that it is one of the other variants
-not_empty : (r : Probe) (t : CharTrie) (p : ParentRef) (ch node : ℕ) → OneOf (0 ∷ 2 ∷ []) (tag_of Probe·type.the_type r)
+-- a search that ends at no empty slot: of its answer the code knows only that it is no empty slot
+not_empty : (r : Probe) (t : CharTrie) (p : ParentRef) (ch node : ℕ) → ((i : ℕ) → r ≡ Empty i → ⊥)
     → stepped Damaged t ≡ new_step_by r t p ch node
 unfolding new_step_by
 not_empty (Found i) t p ch node h = refl
-not_empty (Empty i) t p ch node (inl h) = absurd (omega arith)
-not_empty (Empty i) t p ch node (inr h) = absurd (omega arith)
+not_empty (Empty i) t p ch node h = absurd (h i refl)
 not_empty Endless t p ch node h = refl
 
 -- an empty slot that it ends at is one of the slots
@@ -53,7 +48,7 @@ module _ (t : CharTrie) (p : ParentRef) (ch node : ℕ) (b : Bool) (tested : b �
     unfolding new_step
     by_search = rw (← tested, e, searched, k, n)
 
-    pub no_empty_slot : OneOf (0 ∷ 2 ∷ []) (tag_of Probe·type.the_type r) → stepped Damaged t ≡ new_step t p ch node
+    pub no_empty_slot : ((i : ℕ) → r ≡ Empty i → ⊥) → stepped Damaged t ≡ new_step t p ch node
     no_empty_slot other = not_empty r t p ch node other ∙ by_search
 
     pub new_slot_made : (i : ℕ) (u v : CharTrie) → r ≡ Empty i → u ≡ with_bits t p ch → v ≡ new_slot u i key node → stepped (At (Slot i)) v ≡ new_step t p ch node

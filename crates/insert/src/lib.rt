@@ -6,13 +6,14 @@
 //!
 //! Nothing is refused here: the caller has checked the text, the slots and the node numbers before anything is written. In
 //! tables that were not filled here a probe may still meet neither its key nor an empty slot; the insertion then stops.
+#![tactic(auto)]
+
 ghost use Rattle.std.specs.Prelude.{◌≡◌, ◌+◌, ◌/◌, ◌^◌, ◌<◌, pos, length, drop};
 ghost use Rattle.std.proofs.Math.Option.{IsSome};
 ghost use Rattle.utf8.specs.Text.{chars_of};
 ghost use Rattle.trie.specs.declared.ParentRef.TheVariants.{Root};
 ghost use Rattle.trie.specs.Trie as Trie;
-ghost use Rattle.trie.specs.Trie.{SlotTable};
-ghost use Rattle.trie.specs.Lent.{was, trie_lent, trie_left};
+ghost use Rattle.trie.specs.Trie.{trie_of, SlotTable};
 ghost use Rattle.walk.specs.Walk.{Inside};
 ghost use Rattle.insert.specs.Insert as Insert;
 ghost use Rattle.insert.specs.Insert.{characters, marked, reach_of, Ready, stepped, new_step};
@@ -20,7 +21,7 @@ ghost use Rattle.insert.specs.Insert.{characters, marked, reach_of, Ready, stepp
 use trie::{ParentRef, Probe, Step};
 
 // How far a word's steps are there.
-#[derive(Drop)]
+#[derive(Clone, Copy)]
 pub enum Marked {
     // Up to a place; the rest of the word stands from a position of its text on.
     UpTo(ParentRef, usize),
@@ -32,8 +33,8 @@ pub enum Marked {
 fn mark(roots: &mut [u64], slots: &mut [u64], shift: u32, s: &[u8]) -> Marked
     requires slot_table { SlotTable (length slots.old) shift }
     requires some { IsSome (chars_of s.now) }
-    ensures ready { Ready (length (was roots)) (length (was slots)) (was s) result }
-    ensures slots_value { marked (reach_of (was s) result) (trie_left roots slots) ≡ Insert.mark (trie_lent roots slots) Root (characters (was s)) }
+    ensures ready { Ready (length roots.old) (length slots.old) s.now result }
+    ensures slots_value { marked (reach_of s.now result) (trie_of roots.new slots.new) ≡ Insert.mark (trie_of roots.old slots.old) Root (characters s.now) }
 {
     let mut place = ParentRef::Root;
     let mut at: usize = 0;
@@ -64,8 +65,8 @@ fn new_step(
     requires slot_table { SlotTable (length slots.old) shift }
     requires inside { Inside (length roots.old) (length slots.old / 2) place }
     requires ch_bound { ch < 2 ^ 21 }
-    ensures { stepped result (trie_left roots slots)
-        ≡ new_step (trie_lent roots slots) place ch node }
+    ensures { stepped result (trie_of roots.new slots.new)
+        ≡ new_step (trie_of roots.old slots.old) place ch node }
 {
     if walk::from_root(roots, place, ch) {
         let i = ch as usize;
@@ -97,8 +98,8 @@ fn extend(
     requires inside { Inside (length roots.old) (length slots.old / 2) place }
     requires some { IsSome (chars_of (drop at s.now)) }
     requires s_bound { (node + length s.now < 2 ^ 32) × (number + 1 < 2 ^ 32) }
-    ensures { trie_left roots slots
-        ≡ Trie.extend (trie_lent roots slots) place (characters (drop at (was s))) node (pos number) }
+    ensures { trie_of roots.new slots.new
+        ≡ Trie.extend (trie_of roots.old slots.old) place (characters (drop at s.now)) node (pos number) }
 {
     while at < s.len() {
         let next = utf8::next_char(s, at);
@@ -119,8 +120,8 @@ pub fn insert(roots: &mut [u64], slots: &mut [u64], shift: u32, s: &[u8], node: 
     requires slot_table { SlotTable (length slots.old) shift }
     requires some { IsSome (chars_of s.now) }
     requires s_bound { (node + length s.now < 2 ^ 32) × (number + 1 < 2 ^ 32) }
-    ensures { trie_left roots slots
-        ≡ Trie.insert (trie_lent roots slots) Root (characters (was s)) node (pos number) }
+    ensures { trie_of roots.new slots.new
+        ≡ Trie.insert (trie_of roots.old slots.old) Root (characters s.now) node (pos number) }
 {
     let Marked::UpTo(place, at) = mark(roots, slots, shift, s) else {
         return;

@@ -1,18 +1,18 @@
 -- A frequency is the same read by bytes as by characters: digits and + are ASCII, and every byte of any other character is none of them.
 -- Assumes nothing.
 use mathlib.Core.Path.{◌≡◌, refl, sym, ap, ◌∙◌}
-use mathlib.Core.Bool.{Bool, true, false, cond, ◌&&◌}
+use mathlib.Core.Bool.{Bool, true, false, ◌&&◌}
 use mathlib.Core.Logic.{◌⊎◌, inl, inr}
 use mathlib.Core.List.{List, [], ◌∷◌, ◌++◌}
 use Prim.Native.Nat.{ℕ, ◌<◌, ◌≤◌}
 use native.Mathlib.Omega.{arith}
-use borrow.Author.Tests.{le-leb, lt-leb, leb-true, leb-false, ne_eqb, eqb-true, eqb-false}
+use borrow.Author.Tests.{le-leb, lt-leb, leb-true, ne_eqb, eqb-false}
 use lib.Dec.{leb, eqb}
 use Rattle.utf8.specs.Encoding.{encode, encode_text}
 use Rattle.utf8.proofs.Encodings.{below, encode_1}
 use Rattle.utf8.proofs.Texts.{encode_lead}
 use Rattle.lines.specs.declared.Frequency.{Frequency}
-use Rattle.lines.specs.Lines.{digit, digits, decimal, greatest, number, frequency_of}
+use Rattle.lines.specs.Lines.{digit, digits, number, frequency_of}
 
 -- what is above 0x7F is no digit
 no_digit : (c : ℕ) (x : Bool) → 0x80 ≤ c → (digit c && x) ≡ false

@@ -3,11 +3,10 @@
 -- a position after a part's bytes has the characters after it.
 -- Assumes nothing.
 use mathlib.Core.Path.{◌≡◌, refl, sym, ap, ◌∙◌}
-use mathlib.Core.Bool.{Bool, true, false, not, cond, beq}
+use mathlib.Core.Bool.{Bool, true, false, not, beq}
 use mathlib.Core.List.{List, [], ◌∷◌, ◌++◌}
 use mathlib.Core.Option.{Option, none, some, IsSome}
-use Prim.Native.Nat.{ℕ, suc, ◌+◌, ◌-◌, ◌<◌, ◌≤◌}
-use native.Mathlib.Nat.{add-zero, add_assoc}
+use Prim.Native.Nat.{ℕ, ◌+◌, ◌-◌, ◌≤◌}
 use native.Mathlib.Omega.{arith}
 use lib.ListN.{length, take, drop}
 use Rattle.classes.specs.WhiteSpace.{white_space}
@@ -16,9 +15,8 @@ use Rattle.utf8.specs.Characters.{character_at}
 use Rattle.utf8.specs.Encoding.{encode, byte_length}
 use Rattle.utf8.specs.Text.{before, chars_of, chars_from}
 use Rattle.utf8.proofs.Positions.{from_char, from_end, width_of, byte_length_cons, from_second, first_bytes, within_text, none_left}
-use Rattle.lines.specs.declared.Field.{Field}
 use Rattle.lines.specs.declared.Field.TheVariants.{Missing, At}
-use Rattle.lines.specs.Lines.{onto, take_while, drop_while, pieces, non_empty, fields_of, past, space_is, field_placed, field_at}
+use Rattle.lines.specs.Lines.{onto, take_while, drop_while, pieces, non_empty, fields_of, past, space_is, field_at}
 
 -- ---- the first characters that pass a test, and the rest
 

@@ -10,14 +10,13 @@ use lib.ListN.{length, take, drop}
 use Rattle.classes.specs.WhiteSpace.{white_space}
 use Rattle.utf8.specs.declared.CharCount.{CharCount}
 use Rattle.utf8.specs.declared.CharCount.TheVariants.{Chars}
-use Rattle.utf8.specs.Encoding.{encode_text, byte_length}
+use Rattle.utf8.specs.Encoding.{byte_length}
 use Rattle.utf8.specs.Text.{chars_of, chars_from, count_of}
 use Rattle.utf8.proofs.Texts.{texts_only_of_encodings}
 use Rattle.utf8.proofs.Positions.{from_start}
 use Rattle.lines.specs.declared.Frequency.{Frequency}
 use Rattle.lines.specs.declared.Frequency.TheVariants.{Value}
 use Rattle.lines.specs.declared.Field.TheVariants.{Missing, At}
-use Rattle.lines.specs.declared.Line.{Line}
 use Rattle.lines.specs.declared.Line.TheVariants.{Malformed, Blank, BadFrequency, Entry}
 use Rattle.lines.specs.Lines.{fields_of, frequency_of, Meaning, malformed, blank, bad_frequency, entry, with_frequency, meaning_of_fields, meaning_of_chars}
 use Rattle.lines.specs.Lines.{meaning_of, take_while, past, field_at, line_placed, line_of}

@@ -4,16 +4,16 @@
 use mathlib.Core.Path.{◌≡◌, refl, sym, ap, ◌∙◌}
 use mathlib.Core.Bool.{Bool, true, false, cond, ◌&&◌}
 use mathlib.Core.List.{List, [], ◌∷◌}
-use Prim.Native.Nat.{ℕ, suc, ◌+◌, ◌-◌, ◌*◌, ◌<◌, ◌≤◌}
+use Prim.Native.Nat.{ℕ, ◌+◌, ◌-◌, ◌*◌, ◌<◌, ◌≤◌}
 use native.Mathlib.Numerals.{add-one}
 use native.Mathlib.Omega.{arith}
-use borrow.Author.Tests.{le-leb, lt-leb, leb-true, eq-eqb, ne_eqb}
-use lib.Dec.{leb, eqb}
+use borrow.Author.Tests.{le-leb, lt-leb, eq-eqb, ne_eqb}
+use lib.Dec.{leb}
 use lib.ListN.{length, get_or, drop, drop_of_length-le}
 use lib.Seq.{drop-cons}
 use Rattle.lines.specs.declared.Frequency.{Frequency}
 use Rattle.lines.specs.declared.Frequency.TheVariants.{Value}
-use Rattle.lines.specs.Lines.{digit, digits, decimal, greatest, number, number_at, frequency_of}
+use Rattle.lines.specs.Lines.{digits, decimal, greatest, number, number_at, frequency_of}
 
 -- the frequency of the digits to come, after n
 abbrev number_on : ℕ → List ℕ → Frequency

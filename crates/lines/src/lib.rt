@@ -2,6 +2,8 @@
 //!
 //! The Rust reads a line into a `String`, splits it at white space and parses the second field. Here a line is a part of
 //! the text, the word is a part of the line, and nothing is copied.
+#![tactic(auto)]
+
 ghost use Rattle.std.specs.Prelude.{◌≡◌, ◌≤◌, ◌<◌, length};
 ghost use Rattle.std.proofs.Math.Option.{IsSome};
 ghost use Rattle.utf8.specs.Text.{chars_from};
@@ -10,21 +12,21 @@ ghost use Rattle.lines.specs.Lines.{line_end, past, space_is, field_at, number_a
 use utf8::CharCount;
 
 // A field of a line, from where to where it stands.
-#[derive(Drop)]
+#[derive(Clone, Copy)]
 pub enum Field {
     At(usize, usize),
     Missing,
 }
 
 // What a field says as a frequency.
-#[derive(Drop)]
+#[derive(Clone, Copy)]
 pub enum Frequency {
     Value(u32),
     Malformed,
 }
 
 // What a line says.
-#[derive(Drop)]
+#[derive(Clone, Copy)]
 pub enum Line {
     // It is not UTF-8.
     Malformed,

@@ -7,7 +7,6 @@ use mathlib.Core.List.{List}
 use Prim.Native.Nat.{ℕ, ◌+◌, ◌-◌, ◌<◌, ◌≤◌}
 use native.Mathlib.Nat.{le_of_lt}
 use native.Mathlib.Omega.{arith}
-use borrow.Author.Tests.{not-true, not-false}
 use lib.Ieee.{Float}
 use lib.ListN.{length, take, drop, length-take, length-drop}
 use Rattle.lines.specs.Lines.{lines_of, line_end}
@@ -76,10 +75,10 @@ module _ {b₀ : Book} {text : List ℕ} {b : Book} {n at : ℕ} (turn : Loading
           ∙ rw q (ap (load_lines b n) (sym (lines_at text at (le_of_lt h) h)))
 
       module _ {done : Bool} (tested : done ≡ is_done e.outcome) where
-        pub stops : not done ≡ true → load_answer e.outcome (n + 1) e.book ≡ lines_loaded b₀ 0 text 0
-        stops z = sym (rw (sym tested, not-true done z)) ∙ one_line ∙ turn.same
+        pub stops : done ≡ false → load_answer e.outcome (n + 1) e.book ≡ lines_loaded b₀ 0 text 0
+        stops z = sym (rw (sym tested, z)) ∙ one_line ∙ turn.same
 
-        pub goes_on : not done ≡ false → Loading b₀ text e.book (n + 1) (end + 1)
+        pub goes_on : done ≡ true → Loading b₀ text e.book (n + 1) (end + 1)
         unfolding lines_loaded
         goes_on z = record {
           same = rest ∙ turn.same;
@@ -88,4 +87,4 @@ module _ {b₀ : Book} {text : List ℕ} {b : Book} {n at : ℕ} (turn : Loading
         }
           where
             rest : lines_loaded e.book (n + 1) text (end + 1) ≡ lines_loaded b n text at
-            rest = sym (rw (sym tested, not-false done z)) ∙ one_line
+            rest = sym (rw (sym tested, z)) ∙ one_line

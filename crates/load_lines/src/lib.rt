@@ -1,9 +1,10 @@
 //! The lines of a dictionary enter a book one after the other (lib.rs, the loop of `load_dict`), up to the first that is refused.
+#![tactic(auto)]
+
 ghost use Rattle.std.specs.Prelude.{◌≡◌, true, ◌-◌, ◌/◌, ◌≤◌, length};
 ghost use Rattle.logs.specs.Table.{is_log_table};
 ghost use Rattle.trie.specs.Trie.{log2};
-ghost use Rattle.trie.specs.Lent.{was};
-ghost use Rattle.book.specs.Areas.{areas_allowed, book_lent, book_left};
+ghost use Rattle.book.specs.Areas.{areas_allowed, book_in};
 ghost use Rattle.book.specs.Returns.{longest_text};
 ghost use Rattle.book.specs.Enter.{load_answer};
 ghost use Rattle.entry.specs.Texts.{enter_answer, enter_line};
@@ -15,7 +16,7 @@ use lines::Line;
 use logs::LogTable;
 
 // What a load answers.
-#[derive(Drop)]
+#[derive(Clone, Copy)]
 pub struct Loaded {
     pub outcome: Outcome,
     pub line: usize,
@@ -24,7 +25,7 @@ pub struct Loaded {
 
 // A line of a dictionary enters, or is refused and leaves everything as it was. A blank one is passed over. The logarithm of a
 // frequency is looked up in the table, which the loop below lends to every line.
-fn load_line_lem(
+fn load_line(
     head: Head,
     roots: &mut [u64],
     slots: &mut [u64],
@@ -36,8 +37,8 @@ fn load_line_lem(
 ) -> Entered
     requires logarithms_value { areas_allowed (length roots.old) (length slots.old) (length records.old) (length logarithms.old) ≡ true }
     requires shift_value { (shift ≡ 64 - log2 (length slots.old / 2)) × (length line.now ≤ longest_text) × (is_log_table table.now ≡ true) }
-    ensures { enter_answer result.outcome (book_left result.head roots slots records logarithms)
-        ≡ enter_line (book_lent head roots slots records logarithms) (was line) }
+    ensures { enter_answer result.outcome (book_in result.head roots.new slots.new records.new logarithms.new)
+        ≡ enter_line (book_in head roots.old slots.old records.old logarithms.old) line.now }
 {
     match lines::parse_line(line) {
         Line::Malformed => Entered {
@@ -92,8 +93,8 @@ pub fn load_lines(
 ) -> Loaded
     requires logarithms_value { areas_allowed (length roots.old) (length slots.old) (length records.old) (length logarithms.old) ≡ true }
     requires shift_value { (shift ≡ 64 - log2 (length slots.old / 2)) × (length text.now ≤ longest_text) }
-    ensures { load_answer result.outcome result.line (book_left result.head roots slots records logarithms)
-        ≡ lines_loaded (book_lent head roots slots records logarithms) 0 (was text) 0 }
+    ensures { load_answer result.outcome result.line (book_in result.head roots.new slots.new records.new logarithms.new)
+        ≡ lines_loaded (book_in head roots.old slots.old records.old logarithms.old) 0 text.now 0 }
 {
     let table = logs::table();
     let mut head = head;
@@ -102,7 +103,7 @@ pub fn load_lines(
     while at < text.len() {
         let end = lines::line_end(text, at);
         line += 1;
-        let entered = load_line_lem(
+        let entered = load_line(
             head,
             roots,
             slots,

@@ -2,6 +2,8 @@
 //!
 //! Most words of a house have frequencies of at most 1,024. A constant that is indexed where it stands is copied as a whole at each
 //! use, which takes longer than to work the logarithm out. So who needs many logarithms takes the table once, and lends it.
+#![tactic(auto)]
+
 ghost use Rattle.std.specs.Prelude.{◌≡◌, true};
 ghost use Rattle.score.specs.Logarithm.{log_float};
 ghost use Rattle.logs.specs.Table.{is_log_table};

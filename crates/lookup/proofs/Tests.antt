@@ -7,7 +7,7 @@ use mathlib.Core.List.{List, [], ◌∷◌}
 use mathlib.Core.Option.{Option, none, some, IsSome}
 use Prim.Native.Nat.{ℕ, suc, ◌<◌, ◌≤◌}
 use native.Mathlib.Omega.{arith}
-use borrow.Author.Tests.{not-true, not-false, le-leb, lt-leb, leb-true}
+use borrow.Author.Tests.{le-leb, lt-leb, leb-true}
 use lib.Dec.{leb}
 use lib.ListN.{length}
 use Rattle.utf8.specs.declared.CharCount.{CharCount}
@@ -22,19 +22,19 @@ use Rattle.lookup.specs.Tests.{tested_chars, tested_word}
 -- ---- the tests
 
 module _ (sizes : Bool) (word : List ℕ) {r : Bool} (areas : r ≡ sizes) where
-  pub areas_refused : not r ≡ true → Refused BadAreas ≡ tested_word sizes word
+  pub areas_refused : r ≡ false → Refused BadAreas ≡ tested_word sizes word
   unfolding tested_word
-  areas_refused n = rw (sym areas, not-true r n)
+  areas_refused n = rw (sym areas, n)
 
-  module _ (sized : not r ≡ false) where
+  module _ (sized : r ≡ true) where
     pub too_long : longest_text < length word → Refused TooLong ≡ tested_word sizes word
     unfolding tested_word
-    too_long l = rw (sym areas, not-false r sized, lt-leb (length word) longest_text l)
+    too_long l = rw (sym areas, sized, lt-leb (length word) longest_text l)
 
     module _ (short : length word ≤ longest_text) where
       by_chars : tested_word sizes word ≡ tested_chars (chars_of word)
       unfolding tested_word
-      by_chars = rw (sym areas, not-false r sized, le-leb (length word) longest_text short)
+      by_chars = rw (sym areas, sized, le-leb (length word) longest_text short)
 
       module _ {count : CharCount} (counted : count ≡ count_of (chars_of word)) where
         pub malformed : count ≡ CharCount.Malformed → Refused Malformed ≡ tested_word sizes word

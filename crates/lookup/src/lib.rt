@@ -3,9 +3,10 @@
 //!
 //! The Rust has none of these tests: its `&str` is well formed, and its tables grow. Nothing is required of the caller, and
 //! nothing is written.
+#![tactic(auto)]
+
 ghost use Rattle.std.specs.Prelude.{◌≡◌};
-ghost use Rattle.trie.specs.Lent.{was};
-ghost use Rattle.book.specs.Areas.{areas_allowed, book_lent};
+ghost use Rattle.book.specs.Areas.{areas_allowed, book_in};
 ghost use Rattle.book.specs.Returns.{lookup_of};
 ghost use Rattle.book.specs.Numbers.{found_returns, lookup_returns};
 ghost use Rattle.lookup.specs.Tests.{tested_word};
@@ -15,7 +16,7 @@ use trie::Got;
 use utf8::CharCount;
 
 // What the tests of a word come to: what it is refused with, the empty word, or a word of one character or more.
-#[derive(Drop)]
+#[derive(Clone, Copy)]
 pub enum WordTest {
     Refused(Outcome),
     Empty,
@@ -23,6 +24,7 @@ pub enum WordTest {
 }
 
 // The tests of a word, by the lengths of a book's areas and its bytes.
+#[tactic(auto, using(crate::proofs::Tests::too_long))]
 pub fn test_word(
     roots: usize,
     slots: usize,
@@ -30,7 +32,7 @@ pub fn test_word(
     logarithms: usize,
     word: &[u8],
 ) -> WordTest
-    ensures { result ≡ tested_word (areas_allowed roots slots records logarithms) (was word) }
+    ensures { result ≡ tested_word (areas_allowed roots slots records logarithms) word.now }
 {
     if !book::is_allowed(roots, slots, records, logarithms) {
         return WordTest::Refused(Outcome::BadAreas);
@@ -56,8 +58,8 @@ pub fn lookup(
     logarithms: &[f64],
     word: &[u8],
 ) -> Found
-    ensures value { result ≡ lookup_of (book_lent head roots slots records logarithms) (was word) }
-    ensures result_value { found_returns result ≡ lookup_returns (book_lent head roots slots records logarithms) (was word) }
+    ensures value { result ≡ lookup_of (book_in head roots.now slots.now records.now logarithms.now) word.now }
+    ensures result_value { found_returns result ≡ lookup_returns (book_in head roots.now slots.now records.now logarithms.now) word.now }
 {
     match test_word(
         roots.len(),

@@ -1,6 +1,7 @@
 //! What crosses to programs in C and Rust as numbers: a book's head, in a slice of four, what a lookup found, and the mode of a cut.
+#![tactic(auto)]
+
 ghost use Rattle.std.specs.Prelude.{◌≡◌, length};
-ghost use Rattle.trie.specs.Lent.{was, became};
 ghost use Rattle.book.specs.Numbers.{found_returns};
 ghost use Rattle.numbers.specs.Numbers.{head_length, head_of, head_numbers, found_as, mode_of};
 
@@ -14,7 +15,7 @@ pub const HEAD_LENGTH: usize = 4;
 pub const SEARCH: u32 = 1;
 
 // What a lookup found: document 01's number, whether the word is held (1 or 0), and its frequency.
-#[derive(Drop)]
+#[derive(Clone, Copy)]
 pub struct FoundNumbers {
     pub number: u32,
     pub held: u32,
@@ -24,7 +25,7 @@ pub struct FoundNumbers {
 // The head in a slice.
 pub fn read_head(head: &[u64]) -> Head
     requires { length head.now ≡ head_length }
-    ensures { result ≡ head_of (was head) }
+    ensures { result ≡ head_of head.now }
 {
     Head {
         records: head[0],
@@ -37,7 +38,7 @@ pub fn read_head(head: &[u64]) -> Head
 // A head into a slice.
 pub fn write_head(head: &mut [u64], value: Head)
     requires { length head.old ≡ head_length }
-    ensures { became head ≡ head_numbers value }
+    ensures { head.new ≡ head_numbers value }
 {
     head[0] = value.records;
     head[1] = value.slots;

@@ -45,10 +45,10 @@ module _ (roots slots : List ℕ) (p : ParentRef) where
     module _ (key new_key : ℕ) (key_read : key ≡ get_or (keys_of slots) i 0) (slots₁ slots₂ : List ℕ)
         (keys : keys_of slots₁ ≡ set (keys_of slots) i new_key) (same_links : links_of slots₁ ≡ links_of slots)
         (same_keys : keys_of slots₂ ≡ keys_of slots₁) (links : links_of slots₂ ≡ set (links_of slots₁) i new) where
-      pub bits_slot : (ch key_bit child_bit : ℕ) → key_bit ≡ key_bit ch → new_key ≡ with_bit key key_bit → child_bit ≡ child_bit ch
-          → child_of new ≡ with_bit (child_of link) child_bit → word_of new ≡ word_of link → trie_of roots slots₂ ≡ with_bits tables p ch
+      pub bits_slot : (ch kb cb : ℕ) → kb ≡ key_bit ch → new_key ≡ with_bit key kb → cb ≡ child_bit ch
+          → child_of new ≡ with_bit (child_of link) cb → word_of new ≡ word_of link → trie_of roots slots₂ ≡ with_bits tables p ch
       unfolding with_bits
-      bits_slot ch key_bit child_bit kb k cb child word =
+      bits_slot ch kb cb key_is k child_is child word =
           rw (
             e,
             same_keys,
@@ -62,8 +62,8 @@ module _ (roots slots : List ℕ) (p : ParentRef) where
             ← read,
             k,
             key_read,
-            kb,
-            cb,
+            key_is,
+            child_is,
           )
 
 -- ---- a place that is new

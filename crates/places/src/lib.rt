@@ -1,9 +1,10 @@
 //! What an insertion writes at one place of the trie (trie.rs, `insert`): filter bits, a word's number, a new root entry, a new slot.
 //!
 //! A function takes only the tables that it touches, and what it ensures of the trie holds whatever the others contain.
+#![tactic(auto)]
+
 ghost use Rattle.std.specs.Prelude.{◌≡◌, List, ℕ, ◌+◌, ◌/◌, ◌^◌, ◌<◌, pos, length};
 ghost use Rattle.trie.specs.Trie.{trie_of, with_bits, with_word, new_root_entry, new_slot};
-ghost use Rattle.trie.specs.Lent.{was, became, trie_lent, trie_left};
 ghost use Rattle.walk.specs.Walk.{Inside};
 
 use trie::ParentRef;
@@ -11,7 +12,7 @@ use trie::ParentRef;
 // A place gains a character's filter bits: a slot both, a root entry the child's, the root neither.
 pub fn set_bits(roots: &mut [u64], slots: &mut [u64], place: ParentRef, ch: u32)
     requires { Inside (length roots.old) (length slots.old / 2) place }
-    ensures { trie_left roots slots ≡ with_bits (trie_lent roots slots) place ch }
+    ensures { trie_of roots.new slots.new ≡ with_bits (trie_of roots.old slots.old) place ch }
 {
     let bits = trie::filter_bits(ch);
     match place {
@@ -32,7 +33,7 @@ pub fn set_bits(roots: &mut [u64], slots: &mut [u64], place: ParentRef, ch: u32)
 pub fn set_word(roots: &mut [u64], slots: &mut [u64], place: ParentRef, number: u32)
     requires inside { Inside (length roots.old) (length slots.old / 2) place }
     requires number_bound { number + 1 < 2 ^ 32 }
-    ensures { trie_left roots slots ≡ with_word (trie_lent roots slots) place (pos number) }
+    ensures { trie_of roots.new slots.new ≡ with_word (trie_of roots.old slots.old) place (pos number) }
 {
     match place {
         ParentRef::Root => {}
@@ -49,7 +50,7 @@ pub fn set_word(roots: &mut [u64], slots: &mut [u64], place: ParentRef, number: 
 // A root entry for a first character that has none.
 pub fn new_root_entry(roots: &mut [u64], ch: usize, node: u32)
     requires { ch < length roots.old }
-    ensures { (slots : List ℕ) → trie_of (became roots) slots ≡ new_root_entry (trie_of (was roots) slots) ch node }
+    ensures { (slots : List ℕ) → trie_of roots.new slots ≡ new_root_entry (trie_of roots.old slots) ch node }
 {
     roots[ch] = trie::new_link(node);
 }
@@ -57,7 +58,7 @@ pub fn new_root_entry(roots: &mut [u64], ch: usize, node: u32)
 // A slot for a step that has none.
 pub fn new_slot(slots: &mut [u64], i: usize, key: u64, node: u32)
     requires { i < length slots.old / 2 }
-    ensures { (roots : List ℕ) → trie_of roots (became slots) ≡ new_slot (trie_of roots (was slots)) i key node }
+    ensures { (roots : List ℕ) → trie_of roots slots.new ≡ new_slot (trie_of roots slots.old) i key node }
 {
     trie::set_key(slots, i, key);
     trie::set_link(slots, i, trie::new_link(node));

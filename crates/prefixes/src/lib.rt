@@ -2,9 +2,10 @@
 //!
 //! The Rust grows an array of edges. Here their ends and records go to two lent slices, behind those of the positions before. So the
 //! walk can run out of room, and in a damaged book it can meet damage; it answers which it met first.
+#![tactic(auto)]
+
 ghost use Rattle.std.specs.Prelude.{◌≡◌, ◌≤◌, ◌<◌, length, take, drop};
-ghost use Rattle.trie.specs.Trie.{SlotTable};
-ghost use Rattle.trie.specs.Lent.{was, became, trie_lent};
+ghost use Rattle.trie.specs.Trie.{trie_of, SlotTable};
 ghost use Rattle.book.specs.Returns.{Book, longest_text, most_records};
 ghost use Rattle.book.specs.Prefixes.{words_from};
 ghost use Rattle.cuts.specs.Slices.{Characters};
@@ -13,7 +14,7 @@ ghost use Rattle.prefixes.specs.Edges.{Kept, WalkedAt};
 use trie::{ParentRef, Step, WordNumber};
 
 // What a walk has left in the edge slices.
-#[derive(Drop)]
+#[derive(Clone, Copy)]
 pub enum Prefixes {
     // All its edges, so many with those before them.
     Edges(usize),
@@ -41,9 +42,9 @@ pub fn prefixes_at(
     requires slot_table { SlotTable (length slots.now) shift }
     requires at_lt_n { (at < n) × (n ≤ length chars.now) × (n ≤ longest_text) × Characters n chars.now }
     requires taken_le_room { (taken ≤ room) × (room ≤ length edge_ends.old) × (room ≤ length edge_records.old) × (used ≤ most_records) }
-    ensures walked_at { (b : Book) → b.trie ≡ trie_lent roots slots → b.head.records ≡ used
-        → WalkedAt b n at room taken (words_from b at (drop at (take n (was chars)))) (became edge_ends) (became edge_records) result }
-    ensures kept { Kept taken (was edge_ends) (became edge_ends) × Kept taken (was edge_records) (became edge_records) }
+    ensures walked_at { (b : Book) → b.trie ≡ trie_of roots.now slots.now → b.head.records ≡ used
+        → WalkedAt b n at room taken (words_from b at (drop at (take n chars.now))) edge_ends.new edge_records.new result }
+    ensures kept { Kept taken edge_ends.old edge_ends.new × Kept taken edge_records.old edge_records.new }
 {
     let mut count = taken;
     let mut place = ParentRef::Root;

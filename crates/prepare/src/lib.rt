@@ -2,15 +2,17 @@
 //!
 //! The Rust makes its tables (`CharTrie::with_slots`) and lets them grow. Here they are lent, of sizes that the caller
 //! chooses within document 01's limits, and whatever they hold is overwritten.
+#![tactic(auto)]
+
+ghost use Rattle.trie.specs.Trie.{trie_of};
 ghost use Rattle.std.specs.Prelude.{◌≡◌, length, replicate};
-ghost use Rattle.trie.specs.Lent.{was, became, trie_lent, trie_left};
 ghost use Rattle.book.specs.Returns.{prepare_answer, prepare_of};
 ghost use Rattle.book.specs.Numbers.{prepared_returns, prepare_returns};
 
 use book::{Head, Outcome, Prepared};
 
 fn fill_u64(s: &mut [u64], v: u64)
-    ensures { became s ≡ replicate (length (was s)) v }
+    ensures { s.new ≡ replicate (length s.old) v }
 {
     let mut i = 0;
     while i < s.len() {
@@ -20,7 +22,7 @@ fn fill_u64(s: &mut [u64], v: u64)
 }
 
 fn fill_f64(s: &mut [f64], v: f64)
-    ensures { became s ≡ replicate (length (was s)) v }
+    ensures { s.new ≡ replicate (length s.old) v }
 {
     let mut i = 0;
     while i < s.len() {
@@ -37,9 +39,9 @@ pub fn prepare(
     records: &mut [u64],
     logarithms: &mut [f64],
 ) -> Prepared
-    ensures logarithms_value { prepare_answer result (trie_left roots slots) (became records) (became logarithms)
-        ≡ prepare_of (trie_lent roots slots) (was records) (was logarithms) }
-    ensures result_value { prepared_returns result ≡ prepare_returns (trie_lent roots slots) (was records) (was logarithms) }
+    ensures logarithms_value { prepare_answer result (trie_of roots.new slots.new) records.new logarithms.new
+        ≡ prepare_of (trie_of roots.old slots.old) records.old logarithms.old }
+    ensures result_value { prepared_returns result ≡ prepare_returns (trie_of roots.old slots.old) records.old logarithms.old }
 {
     if !book::is_allowed(roots.len(), slots.len(), records.len(), logarithms.len()) {
         return Prepared::Refused(Outcome::BadAreas);

@@ -1,5 +1,7 @@
 //! The lines that answer the frames of the program `cutlines` (document 01, "Program `cutlines`"): lowercase hexadecimal digits,
 //! written into a slice of bytes.
+#![tactic(auto)]
+
 ghost use Rattle.std.specs.Prelude.{◌≡◌, ◌+◌, ◌*◌, ◌<◌, ◌≤◌, length};
 ghost use Rattle.std.proofs.lemmas.List.Edits.{sets};
 ghost use Rattle.printing.specs.Answers.{digit_of, two, four, fours, line_of, no_frame_line, Put};

@@ -2,13 +2,14 @@
 //!
 //! The Rust chooses in an `Option<RouteEntry>`; here the choice is an enum of two cases. Positions are counted from the block's
 //! start.
+#![tactic(auto)]
 
 ghost use Rattle.std.specs.Prelude.{◌≡◌, ◌⊎◌};
 ghost use Rattle.route.specs.Route.{step_score, chosen};
 ghost use Rattle.route.specs.Slices.{as_choice};
 
 // The chosen step from a position.
-#[derive(Drop)]
+#[derive(Clone, Copy)]
 pub struct RouteEntry {
     // The score from the position to the block's end.
     pub score: f64,
@@ -19,7 +20,7 @@ pub struct RouteEntry {
 }
 
 // While choosing: no edge yet, or the best edge with its score, end and record.
-#[derive(Drop)]
+#[derive(Clone, Copy)]
 pub enum Choice {
     NoEdge,
     Best(f64, u32, u32),

@@ -3,16 +3,17 @@
 //! `next_recording` answers the run that starts at a position, and as the Rust's it records the run's characters and where each of
 //! them starts, so that no later pass over the run decodes it again. Where a character starts is recorded as one number, its byte
 //! offset and its UTF-16 offset in it (`cuts::UTF16_UNIT`). The splitter that goes from run to run is `splitter`.
+#![tactic(auto)]
+
 ghost use Rattle.std.specs.Prelude.{◌≡◌, ◌≤◌, ◌<◌, length};
 ghost use Rattle.std.proofs.Math.Option.{IsSome};
-ghost use Rattle.trie.specs.Lent.{was, became};
 ghost use Rattle.utf8.specs.Text.{chars_from};
 ghost use Rattle.book.specs.Returns.{longest_text};
 ghost use Rattle.cuts.specs.Slices.{packed};
 ghost use Rattle.runs.specs.Runs.{class_of, text_from, Recorded};
 
 // The class of characters by which a sentence is split.
-#[derive(Drop)]
+#[derive(Clone, Copy)]
 pub enum CharacterClass {
     // Of `cut`: Han, ASCII letters and digits, and + # & . _ % -
     Default,
@@ -21,7 +22,7 @@ pub enum CharacterClass {
 }
 
 // A maximal run of characters that are all of the class, or all not.
-#[derive(Drop)]
+#[derive(Clone, Copy)]
 pub struct Run {
     pub matched: bool,
     // How many characters it has.
@@ -62,7 +63,7 @@ pub fn next_recording(
 ) -> Run
     requires at_in_bounds { (at < length s.now) × (length s.now ≤ longest_text) × IsSome (chars_from s.now at) × (from ≤ at) }
     requires at_in_bounds_2 { (length (text_from s.now at) < length chars.old) × (length (text_from s.now at) < length offsets.old) }
-    ensures { Recorded (class_of class) (was s) at from result (became chars) (became offsets) }
+    ensures { Recorded (class_of class) s.now at from result chars.new offsets.new }
 {
     // Lent anew, so that the compiler passes the slice's place and length, and not where the two are kept.
     let s = &*s;

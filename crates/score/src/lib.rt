@@ -2,6 +2,8 @@
 //!
 //! The Rust takes the platform's `ln`. Here it is L of document 01: the logarithm to the base 2, times 2^24, worked out in whole
 //! numbers, and so the same on every platform. A double holds it exactly.
+#![tactic(auto)]
+
 ghost use Rattle.std.specs.Prelude.{◌≡◌, ◌<◌};
 ghost use Rattle.score.specs.Scores.{minus_infinity, float_of};
 ghost use Rattle.score.specs.Logarithm.{log_of, log_float};

@@ -1,6 +1,7 @@
 //! What one token brings in search (lib.rs, `cut_for_search`): its parts, the words in it, and itself.
+#![tactic(auto)]
+
 ghost use Rattle.std.specs.Prelude.{◌≡◌, List, ℕ, ◌+◌, ◌≤◌, ◌<◌, Float, length, take};
-ghost use Rattle.trie.specs.Lent.{was, became};
 ghost use Rattle.book.specs.Returns.{longest_text};
 ghost use Rattle.route.specs.Slices.{rows_of};
 ghost use Rattle.cuts.specs.Slices.{Placed};
@@ -25,9 +26,9 @@ pub fn search_token(
 ) -> Cut
     requires x_le_y { (x ≤ y) × (y ≤ length chars.now) × (y < length offsets.now) × (y < length starts.now) × (base + y ≤ longest_text) }
     requires ends_rise { EndsRise starts.now edge_ends.now y }
-    ensures { (place : Base) (n : ℕ) (records : List ℕ) (logarithms : List Float) → y ≤ n → Placed place base (take n (was chars)) (was offsets)
-        → cut_answer result (became tokens) ≡ put_spans place (take n (was chars)) (written count (was tokens))
-        (brought_by (take n (was chars)) (rows_of (was starts) (was edge_ends) records logarithms n) (span x y)) }
+    ensures { (place : Base) (n : ℕ) (records : List ℕ) (logarithms : List Float) → y ≤ n → Placed place base (take n chars.now) offsets.now
+        → cut_answer result tokens.new ≡ put_spans place (take n chars.now) (written count tokens.old)
+        (brought_by (take n chars.now) (rows_of starts.now edge_ends.now records logarithms n) (span x y)) }
 {
     let parts = search_parts::emit_parts(chars, offsets, base, x, y, tokens, count);
     let outcome = parts.outcome;

@@ -4,8 +4,9 @@
 //! The Rust splits the token's text and counts the characters before each part from the token's start. Here a token is a stretch of
 //! a block, whose characters and their places stand in slices, so that a part is found by one look at each character and counted by
 //! none.
+#![tactic(auto)]
+
 ghost use Rattle.std.specs.Prelude.{◌≡◌, List, [], ◌∷◌, ℕ, ◌+◌, ◌≤◌, ◌<◌, length, take};
-ghost use Rattle.trie.specs.Lent.{was, became};
 ghost use Rattle.classes.specs.Tokens.{ascii_letter};
 ghost use Rattle.book.specs.Returns.{longest_text};
 ghost use Rattle.cuts.specs.Slices.{Placed};
@@ -17,7 +18,7 @@ use book::Outcome;
 use cuts::Cut;
 
 // A part of a token, from where it starts.
-#[derive(Drop)]
+#[derive(Clone, Copy)]
 pub struct Part {
     // The position after it.
     pub end: usize,
@@ -38,7 +39,7 @@ fn is_ascii_alphabetic(c: u32) -> bool
 // The part that starts at a position: up to the first connector, or to the token's end.
 fn next_part(chars: &[u32], from: usize, to: usize) -> Part
     requires { (from ≤ to) × (to ≤ length chars.now) }
-    ensures { PartFrom (was chars) from to result }
+    ensures { PartFrom chars.now from to result }
 {
     let mut end = from;
     let mut lettered = false;
@@ -65,9 +66,9 @@ fn emit_part(
     count: usize,
 ) -> Cut
     requires { (from ≤ part.end) × (part.end < length offsets.now) × (base + part.end ≤ longest_text) }
-    ensures { (place : Base) (cs : List ℕ) → Placed place base cs (was offsets) → part.end ≤ length cs
+    ensures { (place : Base) (cs : List ℕ) → Placed place base cs offsets.now → part.end ≤ length cs
         → part.lettered ≡ any_of ascii_letter (chars_between cs (span from part.end))
-        → cut_answer result (became tokens) ≡ put_spans place cs (written count (was tokens))
+        → cut_answer result tokens.new ≡ put_spans place cs (written count tokens.old)
         (those (λ p. searchable (chars_between cs p)) (span from part.end ∷ [])) }
 {
     let end = part.end;
@@ -94,8 +95,8 @@ pub fn emit_parts(
     count: usize,
 ) -> Cut
     requires { (x ≤ y) × (y ≤ length chars.now) × (y < length offsets.now) × (base + y ≤ longest_text) }
-    ensures { (place : Base) (n : ℕ) → y ≤ n → Placed place base (take n (was chars)) (was offsets)
-        → cut_answer result (became tokens) ≡ put_spans place (take n (was chars)) (written count (was tokens)) (parts_of (take n (was chars)) (span x y)) }
+    ensures { (place : Base) (n : ℕ) → y ≤ n → Placed place base (take n chars.now) offsets.now
+        → cut_answer result tokens.new ≡ put_spans place (take n chars.now) (written count tokens.old) (parts_of (take n chars.now) (span x y)) }
 {
     let mut count = count;
     let mut from = x;

@@ -1,7 +1,8 @@
 //! The shorter words in a token that search brings (lib.rs, `cut_for_search`; `word_at` of sparse_dag.rs): each held stretch of two or
 //! of three characters, by the block's edges.
+#![tactic(auto)]
+
 ghost use Rattle.std.specs.Prelude.{◌≡◌, List, [], ◌∷◌, ℕ, ◌+◌, ◌≤◌, ◌<◌, Float, length};
-ghost use Rattle.trie.specs.Lent.{was, became};
 ghost use Rattle.book.specs.Returns.{longest_text};
 ghost use Rattle.route.specs.Slices.{rows_of};
 ghost use Rattle.cuts.specs.Slices.{Placed};
@@ -16,7 +17,7 @@ use cuts::Cut;
 fn word_at(starts: &[usize], edge_ends: &[u32], at: usize, end: usize) -> bool
     requires { (at + 1 < length starts.now) × EndsRiseAt starts.now edge_ends.now at }
     ensures { (n : ℕ) (records : List ℕ) (logarithms : List Float) → at < n
-        → result ≡ held_between (rows_of (was starts) (was edge_ends) records logarithms n) (span at end) }
+        → result ≡ held_between (rows_of starts.now edge_ends.now records logarithms n) (span at end) }
 {
     let last = starts[at + 1];
     let mut place = starts[at];
@@ -43,10 +44,10 @@ fn push_gram(
 ) -> Cut
     requires at_lt_end { (at < end) × (end < length offsets.now) × (end < length starts.now) × (base + end ≤ longest_text) }
     requires ends_rise_at { EndsRiseAt starts.now edge_ends.now at }
-    ensures { (place : Base) (cs : List ℕ) (n : ℕ) (records : List ℕ) (logarithms : List Float) → Placed place base cs (was offsets)
+    ensures { (place : Base) (cs : List ℕ) (n : ℕ) (records : List ℕ) (logarithms : List Float) → Placed place base cs offsets.now
         → end ≤ length cs → at < n
-        → cut_answer result (became tokens) ≡ put_spans place cs (written count (was tokens))
-        (those (held_between (rows_of (was starts) (was edge_ends) records logarithms n)) (span at end ∷ [])) }
+        → cut_answer result tokens.new ≡ put_spans place cs (written count tokens.old)
+        (those (held_between (rows_of starts.now edge_ends.now records logarithms n)) (span at end ∷ [])) }
 {
     if word_at(starts, edge_ends, at, end) {
         return tokens::emit_span(offsets, base, at, end, tokens, count);
@@ -71,10 +72,10 @@ pub fn emit_words(
 ) -> Cut
     requires size_nonzero { (0 < size) × (x ≤ y) × (y < length offsets.now) × (y < length starts.now) × (base + y ≤ longest_text) }
     requires ends_rise { EndsRise starts.now edge_ends.now y }
-    ensures { (place : Base) (cs : List ℕ) (n : ℕ) (records : List ℕ) (logarithms : List Float) → Placed place base cs (was offsets)
+    ensures { (place : Base) (cs : List ℕ) (n : ℕ) (records : List ℕ) (logarithms : List Float) → Placed place base cs offsets.now
         → y ≤ length cs → y ≤ n
-        → cut_answer result (became tokens) ≡ put_spans place cs (written count (was tokens))
-        (words_of_size size (rows_of (was starts) (was edge_ends) records logarithms n) (span x y)) }
+        → cut_answer result tokens.new ≡ put_spans place cs (written count tokens.old)
+        (words_of_size size (rows_of starts.now edge_ends.now records logarithms n) (span x y)) }
 {
     let mut count = count;
     if size < y - x {

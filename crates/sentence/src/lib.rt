@@ -2,8 +2,9 @@
 //!
 //! The Rust has none of them: its `&str` is well formed, and its tables grow. Nothing is written here, so that a cut that does
 //! not begin leaves every area as it was.
+#![tactic(auto)]
+
 ghost use Rattle.std.specs.Prelude.{◌≡◌, List, [], ◌∷◌, ℕ, length};
-ghost use Rattle.trie.specs.Lent.{was};
 ghost use Rattle.book.specs.declared.Outcome.TheVariants.{Done};
 ghost use Rattle.cuts.specs.Slices as Slices;
 ghost use Rattle.cuts.specs.Tokens.{written};
@@ -44,6 +45,7 @@ pub fn shortest(
 // Whether a sentence is cut, by the lengths of what is lent, its bytes and the book's head: `Done` if so, or what it is refused
 // with. It is called and not inlined, and of an area it asks the length alone: so a length is what it takes. The records' come
 // first, apart from the slots': side by side the compiler moves two lengths as one, which waits for the stores of both.
+#[tactic(auto, using(crate::proofs::Beginning::too_long))]
 pub fn begin(
     head: Head,
     records: usize,
@@ -56,7 +58,7 @@ pub fn begin(
 ) -> Outcome
     ensures { (area : List ℕ) → length area ≡ tokens
         → answer result (written 0 area) ≡ cut_with (tested_sizes head roots slots records logarithms) work area
-        (λ cs. answer Done) (was sentence) }
+        (λ cs. answer Done) sentence.now }
 {
     if !book::is_allowed(roots, slots, records, logarithms) {
         return Outcome::BadAreas;

@@ -3,8 +3,9 @@
 //!
 //! A space and 0 go right after each word that has no second field; everything else goes out as it came. What is written is
 //! `filled` of the sheet; that it is loaded as the sheet was is a theorem on that definition (`specs/Claims.antt`).
+#![tactic(auto)]
+
 ghost use Rattle.std.specs.Prelude.{◌≡◌, ◌+◌, ◌*◌, ◌≤◌, length};
-ghost use Rattle.trie.specs.Lent.{was, became};
 ghost use Rattle.printing.specs.Answers.{Put};
 ghost use Rattle.sheets.specs.Filled.{zero_place, filled_line, filled, filling, fill_of};
 
@@ -18,7 +19,7 @@ pub const LONGEST_SHEET: usize = 65536;
 pub const ROOM: usize = 131073;
 
 // Where a line's 0 goes.
-#[derive(Drop)]
+#[derive(Clone, Copy)]
 pub enum ZeroPlace {
     // After so many bytes, which end with a word that has no second field.
     After(usize),
@@ -27,7 +28,7 @@ pub enum ZeroPlace {
 }
 
 // What becomes of a sheet.
-#[derive(Drop)]
+#[derive(Clone, Copy)]
 pub enum Sheet {
     // It is filled, and has so many bytes now.
     Filled(usize),
@@ -36,7 +37,7 @@ pub enum Sheet {
 
 // Where a line's 0 goes: right after its word, if that is its only field.
 fn zero_place(line: &[u8]) -> ZeroPlace
-    ensures { result ≡ zero_place (was line) }
+    ensures { result ≡ zero_place line.now }
 {
     match utf8::char_count(line) {
         CharCount::Malformed => {
@@ -56,7 +57,7 @@ fn zero_place(line: &[u8]) -> ZeroPlace
 // Writes bytes from a place on, and answers where they end.
 fn put(bytes: &[u8], out: &mut [u8], from: usize) -> usize
     requires { from + length bytes.now ≤ length out.old }
-    ensures { Put (was out) from (was bytes) (became out) result }
+    ensures { Put out.old from bytes.now out.new result }
 {
     let mut at = from;
     let mut i: usize = 0;
@@ -71,7 +72,7 @@ fn put(bytes: &[u8], out: &mut [u8], from: usize) -> usize
 // Writes a line with its 0.
 fn fill_line(line: &[u8], out: &mut [u8], at: usize) -> usize
     requires { at + length line.now + 2 ≤ length out.old }
-    ensures { Put (was out) at (filled_line (was line)) (became out) result }
+    ensures { Put out.old at (filled_line line.now) out.new result }
 {
     let ZeroPlace::After(end) = zero_place(line) else {
         return put(line, out, at);
@@ -85,7 +86,7 @@ fn fill_line(line: &[u8], out: &mut [u8], at: usize) -> usize
 // Writes a sheet line by line. An LF goes out where one came.
 fn fill_lines(sheet: &[u8], out: &mut [u8]) -> usize
     requires { 2 * length sheet.now + 1 ≤ length out.old }
-    ensures { Put (was out) 0 (filled (was sheet)) (became out) result }
+    ensures { Put out.old 0 (filled sheet.now) out.new result }
 {
     let mut at: usize = 0;
     let mut written: usize = 0;
@@ -103,7 +104,7 @@ fn fill_lines(sheet: &[u8], out: &mut [u8]) -> usize
 
 // Fills a sheet, unless it is too long; then nothing is written.
 pub fn fill(sheet: &[u8], out: &mut [u8; ROOM]) -> Sheet
-    ensures { filling result (became out) ≡ fill_of (was sheet) (was out) }
+    ensures { filling result out.new ≡ fill_of sheet.now out.old }
 {
     if LONGEST_SHEET < sheet.len() {
         return Sheet::TooLong;

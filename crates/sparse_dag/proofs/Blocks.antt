@@ -17,7 +17,6 @@ use Rattle.score.proofs.Tests.{by_leb}
 use Rattle.trie.specs.Trie.{CharTrie, trie_of}
 use Rattle.book.specs.declared.Outcome.{Outcome}
 use Rattle.book.specs.declared.Outcome.TheVariants.{EdgesFull}
-use Rattle.book.specs.declared.Outcome.TheVariants as Outcome
 use Rattle.book.specs.Returns.{Book}
 use Rattle.book.specs.Prefixes.{Edge, Walked, words_from}
 use Rattle.route.specs.Slices.{edges_from, edges_at, rows_from, EdgeOf}

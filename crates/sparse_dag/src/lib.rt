@@ -4,9 +4,10 @@
 //! The Rust's `StaticSparseDAG` grows an array of edges and an array of offsets into it. Here both are lent: the edges' ends and
 //! records in two slices, position after position, and for each position the place of its first edge, with one more at the
 //! block's end.
+#![tactic(auto)]
+
 ghost use Rattle.std.specs.Prelude.{◌≡◌, ◌≤◌, ◌<◌, length, take};
-ghost use Rattle.trie.specs.Trie.{SlotTable};
-ghost use Rattle.trie.specs.Lent.{was, became, trie_lent};
+ghost use Rattle.trie.specs.Trie.{trie_of, SlotTable};
 ghost use Rattle.book.specs.Returns.{Book, longest_text, most_records};
 ghost use Rattle.cuts.specs.Slices.{Characters};
 ghost use Rattle.prefixes.specs.Edges.{WalkedBlock};
@@ -30,8 +31,8 @@ pub fn for_each_prefix_at_every_char(
     requires slot_table { SlotTable (length slots.now) shift }
     requires n_in_bounds { (n ≤ length chars.now) × (n ≤ longest_text) × (n < length starts.old) × Characters n chars.now }
     requires room_in_bounds { (room ≤ length edge_ends.old) × (room ≤ length edge_records.old) × (used ≤ most_records) }
-    ensures { (b : Book) → b.trie ≡ trie_lent roots slots → b.head.records ≡ used → used ≤ length b.logarithms
-        → WalkedBlock b n room (take n (was chars)) (became starts) (became edge_ends) (became edge_records) result }
+    ensures { (b : Book) → b.trie ≡ trie_of roots.now slots.now → b.head.records ≡ used → used ≤ length b.logarithms
+        → WalkedBlock b n room (take n chars.now) starts.new edge_ends.new edge_records.new result }
 {
     starts[0] = 0;
     let mut count: usize = 0;

@@ -1,7 +1,6 @@
 -- The laws that the functions' proofs, here and in the crates above, cite.
 pub mod Sentences
 pub mod Cutting
-pub mod Held
 pub mod Turns
 pub mod Through
 pub mod OneKind

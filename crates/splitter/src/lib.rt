@@ -5,12 +5,13 @@
 //!
 //! A loop over a sentence's blocks keeps the position alone: `start`, `has_next` and `advance` make the splitter of it, and
 //! answer what it says. That the runs in turn are the sentence's blocks is the claim `BlocksInTurn`.
+#![tactic(auto)]
+
 ghost use Rattle.std.specs.Prelude.{◌≡◌};
-ghost use Rattle.trie.specs.Lent.{was};
 ghost use Rattle.splitter.specs.Turns.{begun, moved_to, within, has_next};
 
 // A text, and how far it has been split. The class, which the Rust keeps beside them, is a parameter of `next_recording`.
-#[derive(Drop)]
+#[derive(Clone, Copy)]
 pub struct SplitByCharacterClass<'t> {
     pub text: &'t [u8],
     pub pos: usize,
@@ -51,7 +52,7 @@ impl<'t> SplitByCharacterClass<'t> {
 
 // Whether a position is before the end of the text.
 fn is_within(s: &[u8], at: usize) -> bool
-    ensures { result ≡ within (was s) at }
+    ensures { result ≡ within s.now at }
 {
     at < s.len()
 }
@@ -65,7 +66,7 @@ pub fn start(sentence: &[u8]) -> usize
 
 // Whether the splitter of a sentence that has got to a position has a run before it.
 pub fn has_next(sentence: &[u8], at: usize) -> bool
-    ensures { result ≡ within (was sentence) at }
+    ensures { result ≡ within sentence.now at }
 {
     let splitter = SplitByCharacterClass {
         text: sentence,

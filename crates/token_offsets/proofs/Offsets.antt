@@ -164,4 +164,4 @@ unfolding tokenize_of
 offsets_count b work room area sentence cs e =
     let of_cut = cut_counts b work room area sentence cs e in
     let of_search = search_counts b work room area sentence cs e in
-    (of_cut, all_counts b work room area sentence cs e, of_search, λ mode. elim mode [ Default ↦ of_cut | Search ↦ of_search ])
+    (of_cut, all_counts b work room area sentence cs e, of_search, λ mode. elim mode as (λ m. EachCounts cs (tokenize_of m b work room area sentence)) [ Default ↦ of_cut | Search ↦ of_search ])

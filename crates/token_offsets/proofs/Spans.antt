@@ -49,6 +49,7 @@ module _ {A : Type 0} (P : A → Type 0) where
   Each (x ∷ xs) = P x × Each xs
 
   each_one : (xs : List A) → Each xs → (x : A) → Memᴰ x xs → P x
+  each_one [] h x x4 = elim x4 [ ]
   each_one (y ∷ xs) h x (Memᴰ.head e) = rw e h.0
   each_one (y ∷ xs) h x (Memᴰ.tail m) = each_one xs h.1 x m
 

@@ -59,8 +59,8 @@ module _ {n : ℕ} {joining : Span → Bool} {steps : ℕ → List Span} {end : 
   pieces_next x h = ap (pieces_of joining) (block.next x h)
       ∙ ap (λ (t : Bool). before_pieces (span x (end x)) t (pieces_of joining (steps (end x)))) (block.joins x h)
 
-  first_joins : (x : ℕ) → x < n → first_joins (pieces x) ≡ holds x
-  first_joins x h = ap first_joins (pieces_next x h) ∙ before_joins (span x (end x)) (holds x) (pieces (end x))
+  first_joins_lem : (x : ℕ) → x < n → first_joins (pieces x) ≡ holds x
+  first_joins_lem x h = ap first_joins (pieces_next x h) ∙ before_joins (span x (end x)) (holds x) (pieces (end x))
 
   -- after a maximal run the first piece does not join
   ended : (to : ℕ) → to ≤ n → (to < n → holds to ≡ false) → first_joins (pieces to) ≡ false
@@ -68,7 +68,7 @@ module _ {n : ℕ} {joining : Span → Bool} {steps : ℕ → List Span} {end : 
   ended to inside no_more =
       by_leb n to (λ (t : Bool). first_joins (pieces_of joining (steps to)) ≡ false)
       (λ h. ap (λ (ss : List Span). first_joins (pieces_of joining ss)) (block.none to h))
-      (λ h. first_joins to h ∙ no_more h)
+      (λ h. first_joins_lem to h ∙ no_more h)
 
   -- a step that joins
   pieces_joining : (x : ℕ) → x < n → holds x ≡ true → pieces x ≡ before_pieces (span x (x + 1)) true (pieces (x + 1))

@@ -5,9 +5,10 @@
 //! characters before it in the sentence, `base`; a place is a byte offset and a UTF-16 offset in one number
 //! (`cuts::UTF16_UNIT`). Every function that writes tokens answers how many are written so far, and stops where there is no place
 //! for one more.
+#![tactic(auto)]
+
 ghost use Rattle.std.specs.Prelude.{◌≡◌, List, [], ◌∷◌, ℕ, ◌+◌, ◌*◌, ◌≤◌, ◌<◌, length};
 ghost use Rattle.std.proofs.lemmas.List.Edits.{sets};
-ghost use Rattle.trie.specs.Lent.{was, became};
 ghost use Rattle.book.specs.Returns.{longest_text};
 ghost use Rattle.cuts.specs.Slices.{Placed};
 ghost use Rattle.cuts.specs.Tokens.{span, Base, numbers_of, token_width, written};
@@ -20,7 +21,7 @@ use cuts::{ByteOffsets, CharOffsets, Cut, Utf16Offsets};
 // Writes a start and an end, counted in one unit.
 fn put_pair(tokens: &mut [u32], at: usize, start: u32, end: u32)
     requires { at + 2 ≤ length tokens.old }
-    ensures { became tokens ≡ sets (was tokens) at (start ∷ end ∷ []) }
+    ensures { tokens.new ≡ sets tokens.old at (start ∷ end ∷ []) }
 {
     tokens[at] = start;
     tokens[at + 1] = end;
@@ -31,7 +32,7 @@ fn put_pair(tokens: &mut [u32], at: usize, start: u32, end: u32)
 fn put_token(tokens: &mut [u32], count: usize, base: u32, x: usize, y: usize, offsets: &[u64])
     requires token_width_in_bounds { count * token_width + token_width ≤ length tokens.old }
     requires x_le_y { (x ≤ y) × (y < length offsets.now) × (base + y ≤ longest_text) }
-    ensures { became tokens ≡ sets (was tokens) (count * token_width) (numbers_of (token_from base x y (was offsets))) }
+    ensures { tokens.new ≡ sets tokens.old (count * token_width) (numbers_of (token_from base x y offsets.now)) }
 {
     let at = count * cuts::TOKEN_WIDTH;
     let chars = CharOffsets(base + x as u32, base + y as u32);
@@ -54,8 +55,8 @@ pub fn emit_span(
     count: usize,
 ) -> Cut
     requires { (x ≤ y) × (y < length offsets.now) × (base + y ≤ longest_text) }
-    ensures { (place : Base) (chars : List ℕ) → Placed place base chars (was offsets) → y ≤ length chars
-        → cut_answer result (became tokens) ≡ put_spans place chars (written count (was tokens)) (span x y ∷ []) }
+    ensures { (place : Base) (chars : List ℕ) → Placed place base chars offsets.now → y ≤ length chars
+        → cut_answer result tokens.new ≡ put_spans place chars (written count tokens.old) (span x y ∷ []) }
 {
     if count < tokens.len() / cuts::TOKEN_WIDTH {
         put_token(tokens, count, base, x, y, offsets);

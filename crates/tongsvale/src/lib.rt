@@ -3,8 +3,10 @@
 //! Each export but the interface's number is a thin function over the call of its name, and none asks anything of its caller but
 //! what a slice is: valid for its length, aligned, and apart from every other slice that is written. A book's head crosses as a
 //! slice of four numbers: records used, slots used, next node, total. `include/tongsvale.h` says what each returns.
+#![tactic(auto)]
+
+ghost use Rattle.trie.specs.Trie.{trie_of};
 ghost use Rattle.std.specs.Prelude.{◌≡◌, false, ◌&&◌};
-ghost use Rattle.trie.specs.Lent.{was, became, trie_lent, trie_left};
 ghost use Rattle.book.specs.Returns.{number_of};
 ghost use Rattle.cuts.specs.Slices.{Unchanged};
 ghost use Rattle.cut_sentence.specs.Areas as CutAreas;
@@ -18,7 +20,7 @@ use cuts::Cut;
 
 // What a load returns: its number and its line.
 #[repr(C)]
-#[derive(Drop)]
+#[derive(Clone, Copy)]
 pub struct TongsvaleLoaded {
     pub number: u32,
     pub line: usize,
@@ -26,7 +28,7 @@ pub struct TongsvaleLoaded {
 
 // What an addition returns: its number and the frequency.
 #[repr(C)]
-#[derive(Drop)]
+#[derive(Clone, Copy)]
 pub struct TongsvaleAdded {
     pub number: u32,
     pub frequency: u64,
@@ -34,7 +36,7 @@ pub struct TongsvaleAdded {
 
 // What a lookup returns: its number, whether the word is held (1 or 0), and its frequency.
 #[repr(C)]
-#[derive(Drop)]
+#[derive(Clone, Copy)]
 pub struct TongsvaleFound {
     pub number: u32,
     pub held: u32,
@@ -43,7 +45,7 @@ pub struct TongsvaleFound {
 
 // What a cut returns: its number and the tokens written.
 #[repr(C)]
-#[derive(Drop)]
+#[derive(Clone, Copy)]
 pub struct TongsvaleCut {
     pub number: u32,
     pub count: usize,
@@ -88,8 +90,8 @@ pub extern "C" fn tongsvale_prepare(
     records: &mut [u64],
     logarithms: &mut [f64],
 ) -> u32
-    ensures { exported result 0 (became head) (trie_left roots slots) (became records) (became logarithms)
-        ≡ prepare_export (was head) (trie_lent roots slots) (was records) (was logarithms) }
+    ensures { exported result 0 head.new (trie_of roots.new slots.new) records.new logarithms.new
+        ≡ prepare_export head.old (trie_of roots.old slots.old) records.old logarithms.old }
 {
     if head.len() != numbers::HEAD_LENGTH {
         return book::number_of(Outcome::BadAreas);
@@ -113,8 +115,8 @@ pub extern "C" fn tongsvale_load(
     logarithms: &mut [f64],
     text: &[u8],
 ) -> TongsvaleLoaded
-    ensures { exported result.number result.line (became head) (trie_left roots slots) (became records) (became logarithms)
-        ≡ load_export (was head) (trie_lent roots slots) (was records) (was logarithms) (was text) }
+    ensures { exported result.number result.line head.new (trie_of roots.new slots.new) records.new logarithms.new
+        ≡ load_export head.old (trie_of roots.old slots.old) records.old logarithms.old text.now }
 {
     if head.len() != numbers::HEAD_LENGTH {
         return TongsvaleLoaded {
@@ -150,8 +152,8 @@ pub extern "C" fn tongsvale_add(
     word: &[u8],
     frequency: u64,
 ) -> TongsvaleAdded
-    ensures { exported result.number result.frequency (became head) (trie_left roots slots) (became records) (became logarithms)
-        ≡ add_export (was head) (trie_lent roots slots) (was records) (was logarithms) (was word) frequency }
+    ensures { exported result.number result.frequency head.new (trie_of roots.new slots.new) records.new logarithms.new
+        ≡ add_export head.old (trie_of roots.old slots.old) records.old logarithms.old word.now frequency }
 {
     if head.len() != numbers::HEAD_LENGTH {
         return TongsvaleAdded {
@@ -188,7 +190,7 @@ pub extern "C" fn tongsvale_lookup(
     word: &[u8],
 ) -> TongsvaleFound
     ensures { found_numbers result.number result.held result.frequency
-        ≡ lookup_export (was head) (trie_lent roots slots) (was records) (was logarithms) (was word) }
+        ≡ lookup_export head.now (trie_of roots.now slots.now) records.now logarithms.now word.now }
 {
     if head.len() != numbers::HEAD_LENGTH {
         return TongsvaleFound {
@@ -231,13 +233,13 @@ pub extern "C" fn tongsvale_cut(
     edge_records: &mut [u32],
     tokens: &mut [u32],
 ) -> TongsvaleCut
-    ensures tokens_value { cut_numbers result.number result.count (became tokens)
-        ≡ cut_export (was head) (trie_lent roots slots) (was records) (was logarithms)
-        (CutAreas.work_lent chars offsets starts scores ends route_records) (CutAreas.room_lent edge_ends edge_records) (was tokens) (was sentence) }
-    ensures unchanged { cut_begins (was head) (trie_lent roots slots) (was records) (was logarithms)
-        (CutAreas.work_lent chars offsets starts scores ends route_records) (was tokens) (was sentence) ≡ false
-        → Unchanged chars × Unchanged offsets × Unchanged starts × Unchanged scores × Unchanged ends × Unchanged route_records
-        × Unchanged edge_ends × Unchanged edge_records }
+    ensures tokens_value { cut_numbers result.number result.count tokens.new
+        ≡ cut_export head.now (trie_of roots.now slots.now) records.now logarithms.now
+        (CutAreas.work_of chars.old offsets.old starts.old scores.old ends.old route_records.old) (CutAreas.room_of edge_ends.old edge_records.old) tokens.old sentence.now }
+    ensures unchanged { cut_begins head.now (trie_of roots.now slots.now) records.now logarithms.now
+        (CutAreas.work_of chars.old offsets.old starts.old scores.old ends.old route_records.old) tokens.old sentence.now ≡ false
+        → Unchanged chars.old chars.new × Unchanged offsets.old offsets.new × Unchanged starts.old starts.new × Unchanged scores.old scores.new × Unchanged ends.old ends.new × Unchanged route_records.old route_records.new
+        × Unchanged edge_ends.old edge_ends.new × Unchanged edge_records.old edge_records.new }
 {
     if head.len() != numbers::HEAD_LENGTH {
         return refused();
@@ -280,13 +282,13 @@ pub extern "C" fn tongsvale_cut_for_search(
     edge_records: &mut [u32],
     tokens: &mut [u32],
 ) -> TongsvaleCut
-    ensures tokens_value { cut_numbers result.number result.count (became tokens)
-        ≡ cut_for_search_export (was head) (trie_lent roots slots) (was records) (was logarithms)
-        (CutAreas.work_lent chars offsets starts scores ends route_records) (CutAreas.room_lent edge_ends edge_records) (was tokens) (was sentence) }
-    ensures unchanged { cut_begins (was head) (trie_lent roots slots) (was records) (was logarithms)
-        (CutAreas.work_lent chars offsets starts scores ends route_records) (was tokens) (was sentence) ≡ false
-        → Unchanged chars × Unchanged offsets × Unchanged starts × Unchanged scores × Unchanged ends × Unchanged route_records
-        × Unchanged edge_ends × Unchanged edge_records }
+    ensures tokens_value { cut_numbers result.number result.count tokens.new
+        ≡ cut_for_search_export head.now (trie_of roots.now slots.now) records.now logarithms.now
+        (CutAreas.work_of chars.old offsets.old starts.old scores.old ends.old route_records.old) (CutAreas.room_of edge_ends.old edge_records.old) tokens.old sentence.now }
+    ensures unchanged { cut_begins head.now (trie_of roots.now slots.now) records.now logarithms.now
+        (CutAreas.work_of chars.old offsets.old starts.old scores.old ends.old route_records.old) tokens.old sentence.now ≡ false
+        → Unchanged chars.old chars.new × Unchanged offsets.old offsets.new × Unchanged starts.old starts.new × Unchanged scores.old scores.new × Unchanged ends.old ends.new × Unchanged route_records.old route_records.new
+        × Unchanged edge_ends.old edge_ends.new × Unchanged edge_records.old edge_records.new }
 {
     if head.len() != numbers::HEAD_LENGTH {
         return refused();
@@ -330,13 +332,13 @@ pub extern "C" fn tongsvale_tokenize(
     edge_records: &mut [u32],
     tokens: &mut [u32],
 ) -> TongsvaleCut
-    ensures tokens_value { cut_numbers result.number result.count (became tokens)
-        ≡ tokenize_export (was head) (trie_lent roots slots) (was records) (was logarithms)
-        mode (CutAreas.work_lent chars offsets starts scores ends route_records) (CutAreas.room_lent edge_ends edge_records) (was tokens) (was sentence) }
-    ensures unchanged { (is_mode mode && cut_begins (was head) (trie_lent roots slots) (was records) (was logarithms)
-        (CutAreas.work_lent chars offsets starts scores ends route_records) (was tokens) (was sentence)) ≡ false
-        → Unchanged chars × Unchanged offsets × Unchanged starts × Unchanged scores × Unchanged ends × Unchanged route_records
-        × Unchanged edge_ends × Unchanged edge_records }
+    ensures tokens_value { cut_numbers result.number result.count tokens.new
+        ≡ tokenize_export head.now (trie_of roots.now slots.now) records.now logarithms.now
+        mode (CutAreas.work_of chars.old offsets.old starts.old scores.old ends.old route_records.old) (CutAreas.room_of edge_ends.old edge_records.old) tokens.old sentence.now }
+    ensures unchanged { (is_mode mode && cut_begins head.now (trie_of roots.now slots.now) records.now logarithms.now
+        (CutAreas.work_of chars.old offsets.old starts.old scores.old ends.old route_records.old) tokens.old sentence.now) ≡ false
+        → Unchanged chars.old chars.new × Unchanged offsets.old offsets.new × Unchanged starts.old starts.new × Unchanged scores.old scores.new × Unchanged ends.old ends.new × Unchanged route_records.old route_records.new
+        × Unchanged edge_ends.old edge_ends.new × Unchanged edge_records.old edge_records.new }
 {
     if head.len() != numbers::HEAD_LENGTH {
         return refused();
@@ -377,12 +379,12 @@ pub extern "C" fn tongsvale_cut_all(
     offsets: &mut [u64],
     tokens: &mut [u32],
 ) -> TongsvaleCut
-    ensures tokens_value { cut_numbers result.number result.count (became tokens)
-        ≡ cut_all_export (was head) (trie_lent roots slots) (was records) (was logarithms)
-        (CutAllAreas.work_lent chars offsets) (was tokens) (was sentence) }
-    ensures unchanged { cut_begins (was head) (trie_lent roots slots) (was records) (was logarithms)
-        (CutAllAreas.work_lent chars offsets) (was tokens) (was sentence) ≡ false
-        → Unchanged chars × Unchanged offsets }
+    ensures tokens_value { cut_numbers result.number result.count tokens.new
+        ≡ cut_all_export head.now (trie_of roots.now slots.now) records.now logarithms.now
+        (CutAllAreas.work_of chars.old offsets.old) tokens.old sentence.now }
+    ensures unchanged { cut_begins head.now (trie_of roots.now slots.now) records.now logarithms.now
+        (CutAllAreas.work_of chars.old offsets.old) tokens.old sentence.now ≡ false
+        → Unchanged chars.old chars.new × Unchanged offsets.old offsets.new }
 {
     if head.len() != numbers::HEAD_LENGTH {
         return refused();

@@ -98,17 +98,17 @@ module _ (keys : List ℕ) (node ch key : ℕ) (packed : key ≡ key_of node ch)
   pub slot_endless : p ≡ Endless → Damaged ≡ step_by_probe (probe_of keys (key_of node ch))
   slot_endless e = ap step_by_probe (sym e) ∙ by_probe
 
-module _ (keys : List ℕ) (filter child ch bit : ℕ) (key_bit : bit ≡ key_bit ch) (a : Bool) (first : a ≡ has_bit filter bit) where
+module _ (keys : List ℕ) (filter child ch bit : ℕ) (bit_is : bit ≡ key_bit ch) (a : Bool) (first : a ≡ has_bit filter bit) where
   at_key : has_bit filter (key_bit ch) ≡ a
-  at_key = rw (← key_bit) (sym first)
+  at_key = rw (← bit_is) (sym first)
 
   pub key_bit_missing : not a ≡ true → Nothing ≡ step_from keys filter child ch
   unfolding step_from
   key_bit_missing missing = rw (at_key, not-true a missing, step_from)
 
-  module _ (set : not a ≡ false) (bit' : ℕ) (child_bit : bit' ≡ child_bit ch) (b : Bool) (second : b ≡ has_bit child bit') where
+  module _ (set : not a ≡ false) (bit' : ℕ) (bit_is' : bit' ≡ child_bit ch) (b : Bool) (second : b ≡ has_bit child bit') where
     at_child : has_bit child (child_bit ch) ≡ b
-    at_child = rw (← child_bit) (sym second)
+    at_child = rw (← bit_is') (sym second)
 
     pub child_bit_missing : not b ≡ true → Nothing ≡ step_from keys filter child ch
     unfolding step_from

@@ -1,5 +1,4 @@
 -- The definitions that the contracts of `trie` and of the crates above it cite, and what is claimed of them.
 pub mod Trie
 pub mod SlotCounts
-pub mod Lent
 pub mod Claims

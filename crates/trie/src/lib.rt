@@ -10,11 +10,12 @@
 //! The tables are lent: the root's entries, one number each, and the slots, two numbers each, a key and beside it a link. They
 //! need not have been filled here, so a probe that meets neither its key nor an empty slot ends after one round, and a stored
 //! word number that names no record is told apart.
+#![tactic(auto)]
+
 ghost use Rattle.std.specs.Prelude.{◌≡◌, ◌+◌, ◌-◌, ◌/◌, ◌^◌, ◌<◌, pos, length, get_or, set};
 ghost use Rattle.arith.specs.Bits.{with_bit};
 ghost use Rattle.trie.specs.Trie.{no_word, word_number, child_of, word_of, keys_of, links_of, key_of, log2, SlotCount, key_bit, child_bit};
 ghost use Rattle.trie.specs.SlotCounts.{slot_count};
-ghost use Rattle.trie.specs.Lent.{was, became};
 
 // A slot's key is parent × 2^21 + character + 1 in its low 48 bits, and has the first child filter in its high 16 bits.
 const CHARS: u64 = 0x20_0000;
@@ -28,7 +29,7 @@ const ID_BITS: u32 = 24;
 pub const NODES: u32 = 0x100_0000;
 
 // Where a node's child pointer is stored.
-#[derive(Drop)]
+#[derive(Clone, Copy)]
 pub enum ParentRef {
     // The node is the root itself, which has no pointer.
     Root,
@@ -37,7 +38,7 @@ pub enum ParentRef {
 }
 
 // Where a probe ends: at the key, at an empty slot, or not at all.
-#[derive(Drop)]
+#[derive(Clone, Copy)]
 pub enum Probe {
     Found(usize),
     Empty(usize),
@@ -45,7 +46,7 @@ pub enum Probe {
 }
 
 // What a stored word number says.
-#[derive(Drop)]
+#[derive(Clone, Copy)]
 pub enum WordNumber {
     // -1: no word ends here.
     NoWord,
@@ -56,7 +57,7 @@ pub enum WordNumber {
 }
 
 // Where a step leads.
-#[derive(Drop)]
+#[derive(Clone, Copy)]
 pub enum Step {
     At(ParentRef),
     Nothing,
@@ -65,7 +66,7 @@ pub enum Step {
 }
 
 // What a lookup finds.
-#[derive(Drop)]
+#[derive(Clone, Copy)]
 pub enum Got {
     // The word's record.
     Held(usize),
@@ -74,7 +75,7 @@ pub enum Got {
 }
 
 // Which bits a character sets in a node's two child filters: one of 16 in the slot's key, one of 8 in its child.
-#[derive(Drop)]
+#[derive(Clone, Copy)]
 pub struct FilterBits {
     pub key: u32,
     pub child: u32,
@@ -180,7 +181,7 @@ pub fn new_link(node: u32) -> u64
 // The key of slot i, with its filter: the first of the slot's two numbers.
 pub fn key_at(slots: &[u64], i: usize) -> u64
     requires { i < length slots.now / 2 }
-    ensures { result ≡ get_or (keys_of (was slots)) i 0 }
+    ensures { result ≡ get_or (keys_of slots.now) i 0 }
 {
     slots[2 * i]
 }
@@ -188,7 +189,7 @@ pub fn key_at(slots: &[u64], i: usize) -> u64
 // The link of slot i: the second.
 pub fn link_at(slots: &[u64], i: usize) -> u64
     requires { i < length slots.now / 2 }
-    ensures { result ≡ get_or (links_of (was slots)) i 0 }
+    ensures { result ≡ get_or (links_of slots.now) i 0 }
 {
     slots[2 * i + 1]
 }
@@ -196,7 +197,7 @@ pub fn link_at(slots: &[u64], i: usize) -> u64
 // Slot i gets another key, and keeps its link.
 pub fn set_key(slots: &mut [u64], i: usize, key: u64)
     requires { i < length slots.old / 2 }
-    ensures { (keys_of (became slots) ≡ set (keys_of (was slots)) i key) × (links_of (became slots) ≡ links_of (was slots)) }
+    ensures { (keys_of slots.new ≡ set (keys_of slots.old) i key) × (links_of slots.new ≡ links_of slots.old) }
 {
     slots[2 * i] = key;
 }
@@ -204,7 +205,7 @@ pub fn set_key(slots: &mut [u64], i: usize, key: u64)
 // Slot i gets another link, and keeps its key.
 pub fn set_link(slots: &mut [u64], i: usize, link: u64)
     requires { i < length slots.old / 2 }
-    ensures { (keys_of (became slots) ≡ keys_of (was slots)) × (links_of (became slots) ≡ set (links_of (was slots)) i link) }
+    ensures { (keys_of slots.new ≡ keys_of slots.old) × (links_of slots.new ≡ set (links_of slots.old) i link) }
 {
     slots[2 * i + 1] = link;
 }

@@ -34,7 +34,7 @@ use Rattle.built.specs.Ledger.{ledger_after_add, ledger_after_load, enter_lines,
 use Rattle.built.specs.Calls.{answers_of, answer_of, book_after, book_after_all, ledger_after, ledger_after_all}
 use Rattle.two_books.specs.Runs.{ledger_of, Cutter, Cut, CutAll, CutForSearch, Tokenize, Answered}
 use Rattle.two_books.specs.Demand3.{SameStretches}
-use Rattle.two_books.specs.Examples.{one_bridge, other_bridge, command, lent, command_answer, NotVacuous, total_of_zero, total_of_one, pair, EachPremiseNeeded}
+use Rattle.two_books.proofs.Instances.{one_bridge, other_bridge, command, lent, command_answer, NotVacuous, total_of_zero, total_of_one, pair, EachPremiseNeeded}
 
 -- all of it by computation, under one list of the definitions that are computed
 examples : NotVacuous × EachPremiseNeeded

@@ -4,4 +4,5 @@ pub mod Undamaged
 pub mod Turns
 pub mod Runs
 pub mod Demand3
+pub mod Instances
 pub mod Examples

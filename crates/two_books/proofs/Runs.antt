@@ -29,12 +29,16 @@ answered_as lent left (Add word frequency) a w = ap (λ (x : AddAnswer). answer 
 
 ran_book : (b last : Book) (calls : List Call) (answers : List Answer) → Ran b calls answers last → last ≡ book_after_all b calls
 unfolding book_after_all
+ran_book b last [] (a ∷ answers) x'' = elim x'' [ ]
+ran_book b last (call ∷ calls) [] x3 = elim x3 [ ]
 ran_book b last [] [] ended = refl
 ran_book b last (call ∷ calls) (a ∷ answers) (went left w r) =
     ran_book left last calls answers r ∙ ap (λ (x : Book). book_after_all x calls) (left_as b left call a w)
 
 ran_answers : (b last : Book) (calls : List Call) (answers : List Answer) → Ran b calls answers last → answers ≡ answers_of b calls
 unfolding answers_of
+ran_answers b last [] (a ∷ answers) x'' = elim x'' [ ]
+ran_answers b last (call ∷ calls) [] x3 = elim x3 [ ]
 ran_answers b last [] [] ended = refl
 ran_answers b last (call ∷ calls) (a ∷ answers) (went left w r) =
     ap (λ (x : List Answer). a ∷ x) (ran_answers left last calls answers r)

@@ -2,4 +2,3 @@
 pub mod Runs
 pub mod HeldWords
 pub mod Demand3
-pub mod Examples

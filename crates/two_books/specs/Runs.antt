@@ -1,6 +1,6 @@
 -- What calls did: a list of loads and additions that ran on a book, and a cut that ran on the book they left. A call is known by what it got, what it
 -- returned and what it left, and of these its contract holds: the equations below are those of the `ensures` of the public calls, with the book as it was
--- lent and as it was left in the places of `book_lent` and `book_left`.
+-- lent and as it was left in the places of `book_in`.
 -- Assumes nothing.
 use Rattle.std.specs.Prelude.{ℕ, List, [], ◌∷◌, ◌≡◌}
 use Rattle.book.specs.Returns.{Book, empty_book}

@@ -1,6 +1,7 @@
 //! A block's tokens outside the class (lib.rs, the unmatched runs of `cut_each` and `cut_all`).
+#![tactic(auto)]
+
 ghost use Rattle.std.specs.Prelude.{◌≡◌, ◌+◌, ◌≤◌, ◌<◌, length, take};
-ghost use Rattle.trie.specs.Lent.{was, became};
 ghost use Rattle.book.specs.Returns.{longest_text};
 ghost use Rattle.cuts.specs.Slices.{Placed};
 ghost use Rattle.cuts.specs.Tokens.{singly, runs_of, Base, written};
@@ -20,8 +21,8 @@ pub fn cut_unmatched(
     count: usize,
 ) -> Cut
     requires { (n ≤ length chars.now) × (n < length offsets.now) × (base + n ≤ longest_text) }
-    ensures { (place : Base) → Placed place base (take n (was chars)) (was offsets)
-        → cut_answer result (became tokens) ≡ put_spans place (take n (was chars)) (written count (was tokens)) (singly 0 (take n (was chars))) }
+    ensures { (place : Base) → Placed place base (take n chars.now) offsets.now
+        → cut_answer result tokens.new ≡ put_spans place (take n chars.now) (written count tokens.old) (singly 0 (take n chars.now)) }
 {
     let mut count = count;
     let mut x: usize = 0;
@@ -51,7 +52,7 @@ pub fn cut_unmatched(
 // The end of the run of joining characters that goes on at a position.
 fn joining_end(chars: &[u32], n: usize, from: usize) -> usize
     requires { (from ≤ n) × (n ≤ length chars.now) }
-    ensures { joining_run (was chars) n from result }
+    ensures { joining_run chars.now n from result }
 {
     let mut y = from;
     while y < n {
@@ -74,8 +75,8 @@ pub fn cut_all_unmatched(
     count: usize,
 ) -> Cut
     requires { (n ≤ length chars.now) × (n < length offsets.now) × (base + n ≤ longest_text) }
-    ensures { (place : Base) → Placed place base (take n (was chars)) (was offsets)
-        → cut_answer result (became tokens) ≡ put_spans place (take n (was chars)) (written count (was tokens)) (runs_of (take n (was chars))) }
+    ensures { (place : Base) → Placed place base (take n chars.now) offsets.now
+        → cut_answer result tokens.new ≡ put_spans place (take n chars.now) (written count tokens.old) (runs_of (take n chars.now)) }
 {
     let mut count = count;
     let mut x: usize = 0;

@@ -15,7 +15,7 @@ use lib.ListN.{length, get_or, take, drop, get_or-eq_default}
 use lib.Seq.{drop-cons, get_or-drop}
 use Rattle.utf8.specs.declared.Character.{Character}
 use Rattle.utf8.specs.declared.Character.TheVariants.{Char, Malformed}
-use Rattle.utf8.specs.Characters.{Octets, octets, tail, sequences, starts_with, character_number, character, read_by, read_from, character_at}
+use Rattle.utf8.specs.Characters.{Octets, tail, sequences, starts_with, character_number, character, read_by, read_from, character_at}
 use Rattle.utf8.specs.Utf16.{units_of}
 use Rattle.utf8.specs.Rows.{inside, any_row, of_length, begins_row, tail_of}
 use Rattle.utf8.proofs.Utf16.{one_unit, two_units}

@@ -12,7 +12,7 @@ use Rattle.utf8.specs.declared.Character.{Character}
 use Rattle.utf8.specs.declared.Character.TheVariants.{Char}
 use Rattle.utf8.specs.Characters.{Octets, sequences, starts_with, character_number, character, read_by, read_from}
 use Rattle.utf8.specs.Rows.{any_row}
-use Rattle.utf8.specs.Claims.{NineRows, is_character, ReadExactlyByRows, ByRow, ReadByItsRow, OneRowOnly}
+use Rattle.utf8.specs.Claims.{NineRows, is_character, ReadExactlyByRows, ReadByItsRow, OneRowOnly}
 use Rattle.utf8.proofs.Encodings.{both, octet}
 use Rattle.utf8.proofs.Rows.{leads_from}
 
@@ -71,6 +71,7 @@ leads_rise ((r ∷ rs) ∷ rows) = leads_from rows (suc r.last) && leads_rise ro
 -- so a row does not begin where one before it does
 later_lead : (rows : List (List Octets)) (m a : ℕ) (bs : List ℕ) (row : List Octets) → T (leads_from rows m) → Memᴰ row rows
     → starts_with row (a ∷ bs) ≡ true → m ≤ a
+later_lead [] m a bs row h k e = elim k [ ]
 later_lead ([] ∷ rows) m a bs row h k e = absurd h
 later_lead ((r ∷ rs) ∷ rows) m a bs row h (Memᴰ.head is) e =
     let p = both (leb m r.first) (leads_from rows m) h in
@@ -86,6 +87,7 @@ first_lead r rs a bs row is e =
 
 same_row : (rows : List (List Octets)) (a : ℕ) (bs : List ℕ) (row other : List Octets) → T (leads_rise rows) → Memᴰ row rows → Memᴰ other rows
     → starts_with row (a ∷ bs) ≡ true → starts_with other (a ∷ bs) ≡ true → row ≡ other
+same_row [] a bs row other h k m e f = elim k [ ]
 same_row ([] ∷ rows) a bs row other h k m e f = absurd h
 same_row ((r ∷ rs) ∷ rows) a bs row other h (Memᴰ.head is) (Memᴰ.head same) e f = is ∙ sym same
 same_row ((r ∷ rs) ∷ rows) a bs row other h (Memᴰ.head is) (Memᴰ.tail m) e f =
@@ -103,6 +105,7 @@ same_row ((r ∷ rs) ∷ rows) a bs row other h (Memᴰ.tail k) (Memᴰ.tail m) 
 
 -- a row has octets, so bytes that begin with it are some
 no_bytes : (rows : List (List Octets)) (row : List Octets) → T (leads_rise rows) → Memᴰ row rows → starts_with row [] ≡ true → ⊥
+no_bytes [] row h k e = elim k [ ]
 no_bytes ([] ∷ rows) row h k e = absurd h
 no_bytes ((r ∷ rs) ∷ rows) row h (Memᴰ.head is) e =
     let fits : starts_with (r ∷ rs) [] ≡ true = rw is at e in let z : ◌≡◌ {A = ℕ} 0 1 = cc in omega arith

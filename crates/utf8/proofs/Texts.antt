@@ -10,13 +10,12 @@ use mathlib.Core.Option.{Option, none, some}
 use Prim.Native.Nat.{ℕ, zero, suc, ◌+◌, ◌-◌, ◌≤◌, ◌<◌}
 use native.Mathlib.Omega.{arith}
 use lib.ListN.{length, take, drop, length-append, length-drop}
-use lib.Seq.{drop-append_seam, drop-drop}
-use lib.Dec.{ltb}
+use lib.Seq.{drop-append_seam}
 use Rattle.utf8.specs.declared.Character.{Character}
 use Rattle.utf8.specs.declared.Character.TheVariants.{Char, Malformed, End}
 use Rattle.utf8.specs.Characters.{Octets, sequences, starts_with, character_number, character, read_by, read_from}
 use Rattle.utf8.specs.Text.{before, chars_within, chars_of}
-use Rattle.utf8.specs.Encoding.{Scalar, encode, Scalars, encode_text}
+use Rattle.utf8.specs.Encoding.{encode, Scalars, encode_text}
 use Rattle.utf8.specs.Claims.{TextsOfEncodings, TextsOnlyOfEncodings}
 use Rattle.utf8.proofs.Encodings.{below, encode_1, encode_2, encode_3, encode_4, reads_encodings, reads_only_encodings}
 

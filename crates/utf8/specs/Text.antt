@@ -1,8 +1,7 @@
 -- A whole text in UTF-8, as the list of its characters.
 -- Assumes nothing.
-use Rattle.std.specs.Prelude.{ℕ, zero, suc, ◌+◌, List, [], ◌∷◌, length, drop}
+use Rattle.std.specs.Prelude.{ℕ, zero, suc, List, [], ◌∷◌, length, drop}
 use Rattle.std.proofs.Math.Option.{Option, none, some}
-use Rattle.utf8.specs.declared.Character.{Character}
 use Rattle.utf8.specs.declared.Character.TheVariants.{Char, Malformed, End}
 use Rattle.utf8.specs.declared.CharCount.{CharCount}
 use Rattle.utf8.specs.declared.CharCount.TheVariants.{Chars}

@@ -4,6 +4,8 @@
 //! of RFC 3629's syntax, the Unicode Standard's table 3-7: each row is a line of the code, and overlong forms, surrogates and
 //! numbers above U+10FFFF are in none of them. After the check a text's characters are read without tests, as the Rust reads a
 //! `&str`. With each character goes how many code units it takes in UTF-16, in which a browser counts.
+#![tactic(auto)]
+
 ghost use Rattle.std.specs.Prelude.{◌≡◌, ◌<◌, length, get_or};
 ghost use Rattle.std.proofs.Math.Option.{IsSome};
 ghost use Rattle.utf8.specs.declared.Character.TheVariants.{Char};
@@ -20,7 +22,7 @@ const THREE_MARKS: u32 = 0xE_2080;
 const FOUR_MARKS: u32 = 0x3C8_2080;
 
 // What stands at a position of a text.
-#[derive(Drop)]
+#[derive(Clone, Copy)]
 pub enum Character {
     // A character: its scalar value, how many bytes it takes, and how many code units in UTF-16.
     Char(u32, usize, usize),
@@ -31,7 +33,7 @@ pub enum Character {
 }
 
 // A character's scalar value, how many bytes it takes, and how many code units in UTF-16.
-#[derive(Drop)]
+#[derive(Clone, Copy)]
 pub struct NextChar {
     pub value: u32,
     pub width: usize,
@@ -39,7 +41,7 @@ pub struct NextChar {
 }
 
 // How many characters a text has.
-#[derive(Drop)]
+#[derive(Clone, Copy)]
 pub enum CharCount {
     Chars(usize),
     Malformed,

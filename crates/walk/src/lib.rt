@@ -2,9 +2,10 @@
 //!
 //! A walk keeps the place that it has reached, the root, a root entry or a slot, and reads one character after another. A
 //! lookup tests the bits at each step, and an insertion tests none.
+#![tactic(auto)]
+
 ghost use Rattle.std.specs.Prelude.{◌≡◌, List, length, ℕ, ◌/◌, ◌^◌, ◌<◌};
 ghost use Rattle.trie.specs.Trie.{SlotTable, node_at, from_root, open_step, tested_step, word_at, children_of, keys_of, trie_of};
-ghost use Rattle.trie.specs.Lent.{was, trie_lent};
 ghost use Rattle.walk.specs.Walk.{Inside, first_step};
 
 use trie::{ParentRef, Step, WordNumber};
@@ -13,7 +14,7 @@ use trie::{ParentRef, Step, WordNumber};
 const ALL_ONES: u64 = 0xFFFF_FFFF_FFFF_FFFF;
 
 // What a new word finds.
-#[derive(Drop)]
+#[derive(Clone, Copy)]
 pub enum Room {
     // A probe without an end: the book is damaged.
     Damaged,
@@ -26,7 +27,7 @@ pub enum Room {
 // The node at a place.
 pub fn node_at(roots: &[u64], slots: &[u64], place: ParentRef) -> u32
     requires { Inside (length roots.now) (length slots.now / 2) place }
-    ensures { result ≡ node_at (trie_lent roots slots) place }
+    ensures { result ≡ node_at (trie_of roots.now slots.now) place }
 {
     match place {
         ParentRef::Root => 0,
@@ -37,7 +38,7 @@ pub fn node_at(roots: &[u64], slots: &[u64], place: ParentRef) -> u32
 
 // Whether a step uses the root table: that of a first character that has an entry there.
 pub fn from_root(roots: &[u64], place: ParentRef, ch: u32) -> bool
-    ensures { (slots : List ℕ) → result ≡ from_root (trie_of (was roots) slots) place ch }
+    ensures { (slots : List ℕ) → result ≡ from_root (trie_of roots.now slots) place ch }
 {
     match place {
         ParentRef::Root => (ch as usize) < roots.len(),
@@ -50,7 +51,7 @@ pub fn from_root(roots: &[u64], place: ParentRef, ch: u32) -> bool
 pub fn root_step(roots: &[u64], slots: &[u64], shift: u32, ch: u32) -> Step
     requires slot_table { SlotTable (length slots.now) shift }
     requires ch_bound { ch < 2 ^ 21 }
-    ensures { result ≡ first_step (children_of (was roots)) (keys_of (was slots)) ch }
+    ensures { result ≡ first_step (children_of roots.now) (keys_of slots.now) ch }
 {
     let i = ch as usize;
     if i < roots.len() {
@@ -59,14 +60,14 @@ pub fn root_step(roots: &[u64], slots: &[u64], shift: u32, ch: u32) -> Step
         }
         return Step::At(ParentRef::RootEntry(i));
     }
-    char_trie::slot_step_lem(slots, shift, 0, ch)
+    char_trie::slot_step(slots, shift, 0, ch)
 }
 
 // A lookup's step: it tests the bits.
 pub fn tested_step(roots: &[u64], slots: &[u64], shift: u32, place: ParentRef, ch: u32) -> Step
     requires slot_table { SlotTable (length slots.now) shift }
     requires inside { Inside (length roots.now) (length slots.now / 2) place × (ch < 2 ^ 21) }
-    ensures { result ≡ tested_step (trie_lent roots slots) place ch }
+    ensures { result ≡ tested_step (trie_of roots.now slots.now) place ch }
 {
     match place {
         ParentRef::Root => root_step(roots, slots, shift, ch),
@@ -94,18 +95,18 @@ pub fn tested_step(roots: &[u64], slots: &[u64], shift: u32, place: ParentRef, c
 pub fn open_step(roots: &[u64], slots: &[u64], shift: u32, place: ParentRef, ch: u32) -> Step
     requires slot_table { SlotTable (length slots.now) shift }
     requires inside { Inside (length roots.now) (length slots.now / 2) place × (ch < 2 ^ 21) }
-    ensures { result ≡ open_step (trie_lent roots slots) place ch }
+    ensures { result ≡ open_step (trie_of roots.now slots.now) place ch }
 {
     if from_root(roots, place, ch) {
         return root_step(roots, slots, shift, ch);
     }
-    char_trie::slot_step_lem(slots, shift, node_at(roots, slots, place), ch)
+    char_trie::slot_step(slots, shift, node_at(roots, slots, place), ch)
 }
 
 // What the word number at a place says.
 pub fn word_at(roots: &[u64], slots: &[u64], used: usize, place: ParentRef) -> WordNumber
     requires { Inside (length roots.now) (length slots.now / 2) place }
-    ensures { result ≡ word_at used (trie_lent roots slots) place }
+    ensures { result ≡ word_at used (trie_of roots.now slots.now) place }
 {
     match place {
         ParentRef::Root => WordNumber::NoWord,

@@ -2,11 +2,12 @@
 //!
 //! A lookup tests the bits at each step. An insertion tests none, and is looked at here before anything is written: whether its
 //! steps are all there, or how many slots and nodes the missing ones take. The Rust finds out while it inserts, and grows.
+#![tactic(auto)]
+
 ghost use Rattle.std.specs.Prelude.{◌≡◌, List, length, ℕ};
 ghost use Rattle.std.proofs.Math.Option.{IsSome, some};
 ghost use Rattle.trie.specs.Trie.{SlotTable, trie_of};
 ghost use Rattle.trie.specs.declared.ParentRef.TheVariants.{Root};
-ghost use Rattle.trie.specs.Lent.{was, trie_lent};
 ghost use Rattle.utf8.specs.Text.{chars_of};
 ghost use Rattle.walk.specs.Walk.{BeginsWith, walk_from, got_of, new_steps, room_of};
 
@@ -18,7 +19,7 @@ use walk::Room;
 fn walk(roots: &[u64], slots: &[u64], shift: u32, s: &[u8]) -> Step
     requires slot_table { SlotTable (length slots.now) shift }
     requires some { IsSome (chars_of s.now) }
-    ensures { result ≡ walk_from (trie_lent roots slots) Root (chars_of (was s)) }
+    ensures { result ≡ walk_from (trie_of roots.now slots.now) Root (chars_of s.now) }
 {
     let mut at: usize = 0;
     let mut place = ParentRef::Root;
@@ -44,7 +45,7 @@ fn walk(roots: &[u64], slots: &[u64], shift: u32, s: &[u8]) -> Step
 pub fn get(roots: &[u64], slots: &[u64], shift: u32, used: usize, s: &[u8]) -> Got
     requires slot_table { SlotTable (length slots.now) shift }
     requires some { IsSome (chars_of s.now) }
-    ensures { result ≡ got_of used (trie_lent roots slots) (chars_of (was s)) }
+    ensures { result ≡ got_of used (trie_of roots.now slots.now) (chars_of s.now) }
 {
     match walk(roots, slots, shift, s) {
         Step::At(place) => match walk::word_at(roots, slots, used, place) {
@@ -61,7 +62,7 @@ pub fn get(roots: &[u64], slots: &[u64], shift: u32, used: usize, s: &[u8]) -> G
 // each but for a first character that the root table serves.
 fn new_steps(roots: &[u64], place: ParentRef, ch: u32, s: &[u8]) -> Room
     requires { BeginsWith ch (chars_of s.now) }
-    ensures { (slots cs : List ℕ) → chars_of (was s) ≡ some cs → result ≡ new_steps (trie_of (was roots) slots) place cs }
+    ensures { (slots cs : List ℕ) → chars_of s.now ≡ some cs → result ≡ new_steps (trie_of roots.now slots) place cs }
 {
     let CharCount::Chars(nodes) = utf8::char_count(s) else {
         return Room::Damaged;
@@ -77,7 +78,7 @@ fn new_steps(roots: &[u64], place: ParentRef, ch: u32, s: &[u8]) -> Room
 pub fn room_for(roots: &[u64], slots: &[u64], shift: u32, used: usize, s: &[u8]) -> Room
     requires slot_table { SlotTable (length slots.now) shift }
     requires some { IsSome (chars_of s.now) }
-    ensures { result ≡ room_of used (trie_lent roots slots) (chars_of (was s)) }
+    ensures { result ≡ room_of used (trie_of roots.now slots.now) (chars_of s.now) }
 {
     let mut at: usize = 0;
     let mut place = ParentRef::Root;

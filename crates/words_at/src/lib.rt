@@ -2,9 +2,10 @@
 //!
 //! As in the Rust, the walk through the trie visits the words in the order of the output, so that they are written as it meets
 //! them, and no edge is kept.
+#![tactic(auto)]
+
 ghost use Rattle.std.specs.Prelude.{◌≡◌, ◌+◌, ◌≤◌, ◌<◌, length, take, drop};
-ghost use Rattle.trie.specs.Trie.{SlotTable};
-ghost use Rattle.trie.specs.Lent.{was, became, trie_lent};
+ghost use Rattle.trie.specs.Trie.{trie_of, SlotTable};
 ghost use Rattle.book.specs.Returns.{Book, longest_text};
 ghost use Rattle.book.specs.Prefixes.{words_from};
 ghost use Rattle.cuts.specs.Slices.{SeenAs, Characters, Placed};
@@ -32,9 +33,9 @@ pub fn words_at(
 ) -> Cut
     requires slot_table { SlotTable (length slots.now) shift }
     requires at_lt_n { (at < n) × (n ≤ length chars.now) × (n < length offsets.now) × Characters n chars.now × (base + n ≤ longest_text) }
-    ensures { (b : Book) (place : Base) → SeenAs b (trie_lent roots slots) used
-        → Placed place base (take n (was chars)) (was offsets)
-        → cut_answer result (became tokens) ≡ put_walk place (take n (was chars)) at (written count (was tokens)) (words_from b at (drop at (take n (was chars)))) }
+    ensures { (b : Book) (place : Base) → SeenAs b (trie_of roots.now slots.now) used
+        → Placed place base (take n chars.now) offsets.now
+        → cut_answer result tokens.new ≡ put_walk place (take n chars.now) at (written count tokens.old) (words_from b at (drop at (take n chars.now))) }
 {
     let mut count = count;
     let mut place = ParentRef::Root;

@@ -1,0 +1,33 @@
+-- `tongsvale::tongsvale_cut_all` meets its contract: a head of another length is refused with every area as it was, else the call's answer in numbers.
+-- Assumes nothing.
+use mathlib.Core.Path.{refl}
+use Rattle.trie.specs.Trie.{trie_of}
+use Rattle.cut_all.specs.Areas.{work_of}
+use Rattle.tongsvale.proofs.Exports.{cut_all_refused, cut_all_by_lem, not_begun}
+use Rattle.tongsvale.proofs.tongsvale_cut_all.Goals as goal
+
+pub returns-then-head-ne-HEAD_LENGTH : goal.returns-then-head-ne-HEAD_LENGTH
+returns-then-head-ne-HEAD_LENGTH c = let args = c.args in record {
+  tokens_value = cut_all_refused _ _ _ _ _ _ c.refused.ensures.0 c.refused.ensures.1 (work_of args.chars.now args.offsets.now) _ _
+      c.if-head-ne-HEAD_LENGTH.true;
+  unchanged = λ none. (refl, refl);
+}
+
+pub shape_of-chars : goal.shape_of-chars
+shape_of-chars c = c.cut_all.auto.chars
+
+pub shape_of-offsets : goal.shape_of-offsets
+shape_of-offsets c = c.cut_all.auto.offsets
+
+pub shape_of-tokens : goal.shape_of-tokens
+shape_of-tokens c = c.cut_all.auto.tokens
+
+pub returns : goal.returns
+returns c = let four = c.if-head-ne-HEAD_LENGTH.false in
+    let args = c.args in record {
+      tokens_value = cut_all_by_lem _ _ _ _ four _ c.read_head.ensures _ _ _ _ c.cut_all.ensures.tokens_value _ _ c.returned.ensures.0 c.returned.ensures.1;
+      unchanged = λ none.
+          c.cut_all.ensures.unchanged
+          (not_begun args.head.now (trie_of args.roots.now args.slots.now) args.records.now args.logarithms.now four _ c.read_head.ensures
+          (work_of args.chars.now args.offsets.now) args.tokens.now args.sentence.now none);
+    }

@@ -1,0 +1,19 @@
+-- `unmatched::joining_end` meets its contract. The loop's invariant: the characters passed join. Assumes nothing.
+use native.Mathlib.Omega.{arith}
+use Rattle.tokens.proofs.Ends.{run_begins, run_on, run_stops, run_ends}
+use Rattle.unmatched.proofs.Joining.{stands_singly, joins_on}
+use Rattle.unmatched.proofs.joining_end.Goals as goal
+
+pub loop-y-init : goal.loop-y-init
+loop-y-init c = run_begins _ _ _ (omega arith)
+
+pub loop-y-preserved : goal.loop-y-preserved
+loop-y-preserved c =
+    run_on c.loop-y.invariant (omega arith) (joins_on _ _ c.is_skip_cut_all.ensures c.if-is_skip_cut_all.false)
+
+pub returns-after-loop-y : goal.returns-after-loop-y
+returns-after-loop-y c = run_ends c.loop-y.invariant (omega arith)
+
+pub returns-then-is_skip_cut_all : goal.returns-then-is_skip_cut_all
+returns-then-is_skip_cut_all c =
+    run_stops c.loop-y.invariant (stands_singly _ _ c.is_skip_cut_all.ensures c.if-is_skip_cut_all.true)
