@@ -1,4 +1,4 @@
-/* Tongsvale 0.2.0: Chinese sentences into words. The calls of libtongsvale.a (rt staticlib tongsvale), for C11 and C++ on
+/* Tongsvale 0.2.0: Chinese sentences into words. The calls of libtongsvale.a (tools/build tongsvale), for C11 and C++ on
  * x86-64.
  *
  * In short
@@ -30,8 +30,8 @@
  *
  * Stack: a load took 4,952 bytes below the caller's frame, its arguments with them; 4,096 of these hold the table of
  * logarithms. Any other call took at most 760 (add 760, the cuts 712, lookup 392, cut_all 328, prepare 104). Keep 8,192 free
- * for a load and 2,048 for the other calls. This was measured on one build, with a caller compiled by gcc -O2 (by -O0 it was
- * 5,048 and 968), and is not proved. Nothing in the library calls itself, so it does not grow with the input.
+ * for a load and 2,048 for the other calls. This was measured on one build of the kit before today's, with a caller compiled
+ * by gcc -O2 (by -O0 it was 5,048 and 968), and is not proved. Nothing in the library calls itself, so it does not grow with the input.
  *
  * Time: at each character of a sentence a cut follows the longest beginning of a stored word that stands there, with a probe
  * for each character of it: a few slots as a rule, all of them at worst. So it takes up to the sentence's characters times

@@ -1,4 +1,4 @@
-//! Links libtongsvale.a, which `rt staticlib tongsvale` writes to target/staticlib of the repository. `TONGSVALE_LIBRARY` names
+//! Links libtongsvale.a, which `tools/build tongsvale` writes to target/staticlib of the repository. `TONGSVALE_LIBRARY` names
 //! another folder.
 use std::env;
 use std::path::{Path, PathBuf};
@@ -18,7 +18,7 @@ fn main() {
     println!("cargo::rerun-if-changed={}", archive.display());
     if !archive.exists() {
         println!(
-            "cargo::error=no {}: run `rt staticlib tongsvale` in the repository's root first, or name its folder in {FOLDER}",
+            "cargo::error=no {}: run `tools/build tongsvale` in the repository's root first, or name its folder in {FOLDER}",
             archive.display()
         );
         return;
