@@ -230,8 +230,8 @@ module _ (ledger ledger' : List Entry) where
 same_areas : (lent lent' : Areas) → EqualAreas lent lent' → lent ≡ lent'
 same_areas lent lent' equal = rw (equal.work_areas, equal.edge_areas, equal.token_areas)
 
-pub demand_3 : Demand3
-demand_3 r r' sentence same totals lent lent' equal cutter a a' e e' = record {
+pub demand-3 : Demand3
+demand-3 r r' sentence same totals lent lent' equal cutter a a' e e' = record {
   alike = of_first.defined ∙ held_alike ledger ledger' sentence same sums lent cutter
       ∙ ap (λ (areas : Areas). held_answer cutter ledger' areas sentence) (same_areas lent lent' equal) ∙ sym of_second.defined;
   from_held_words = of_first;
