@@ -5,31 +5,34 @@
 ghost use Rattle.std.specs.Prelude.{◌≡◌, ◌+◌, ◌≤◌, length};
 ghost use Rattle.book.specs.Areas.{book_in};
 ghost use Rattle.printing.specs.Answers.{Put};
-ghost use Rattle.answers.specs.Answers.{longest_answer, answer_by};
+ghost use Rattle.answers.specs.Answers.{longest_answer, answer_cut_by};
 
 use book::Head;
 use cuts::TokenizeMode;
-use frames::Kind;
+use frames::CutKind;
 
-// Answers a frame that leaves the book as it is, and what is no frame.
+// Answers a frame that leaves the book as it is, and what is no frame, which has no kind.
 pub fn put_answer(
     head: Head,
     roots: &[u64],
     slots: &[u64],
     records: &[u64],
     logarithms: &[f64],
-    kind: Kind,
+    asked: Option<CutKind>,
     text: &[u8],
     out: &mut [u8],
     at: usize,
 ) -> usize
-    requires { (at + longest_answer ≤ length out.old) × (kind ≡ Kind.Load → ⊥) }
-    ensures put { Put out.old at (answer_by kind (book_in head roots.now slots.now records.now logarithms.now)
+    requires { at + longest_answer ≤ length out.old }
+    ensures put { Put out.old at (answer_cut_by asked (book_in head roots.now slots.now records.now logarithms.now)
         text.now).line out.new result }
     ensures upper_bound { result ≤ at + longest_answer }
 {
+    let Some(kind) = asked else {
+        return printing::put_no_frame(out, at);
+    };
     match kind {
-        Kind::Cut => answers::put_tokenize(
+        CutKind::Plain => answers::put_tokenize(
             head,
             roots,
             slots,
@@ -40,10 +43,10 @@ pub fn put_answer(
             out,
             at,
         ),
-        Kind::CutAll => answers::put_cut_all(
+        CutKind::All => answers::put_cut_all(
             head, roots, slots, records, logarithms, text, out, at,
         ),
-        Kind::CutForSearch => answers::put_tokenize(
+        CutKind::Search => answers::put_tokenize(
             head,
             roots,
             slots,
@@ -54,6 +57,5 @@ pub fn put_answer(
             out,
             at,
         ),
-        _ => printing::put_no_frame(out, at),
     }
 }

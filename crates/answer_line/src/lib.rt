@@ -8,13 +8,12 @@ ghost use Rattle.std.specs.Prelude.{◌+◌, ◌≤◌, length};
 ghost use Rattle.book.specs.Areas.{book_in};
 ghost use Rattle.answers.specs.Answers.{longest_answer, answer_of, Answered};
 
-use answers::Answer;
 use book::Head;
 use frames::Kind;
 
 // Answers a line without its end: writes the answer from a place on.
 pub fn answer_line(
-    head: Head,
+    head: &mut Head,
     roots: &mut [u64],
     slots: &mut [u64],
     records: &mut [u64],
@@ -22,38 +21,29 @@ pub fn answer_line(
     line: &[u8],
     out: &mut [u8],
     at: usize,
-) -> Answer
+) -> usize
     requires { at + longest_answer ≤ length out.old }
-    ensures answered { Answered (answer_of (book_in head roots.old slots.old records.old logarithms.old) line.now)
-        out.old at out.new result.end (book_in result.head roots.new slots.new records.new logarithms.new) }
-    ensures end_bound { result.end ≤ at + longest_answer }
+    ensures answered { Answered (answer_of (book_in head.old roots.old slots.old records.old logarithms.old) line.now)
+        out.old at out.new result (book_in head.new roots.new slots.new records.new logarithms.new) }
+    ensures end_bound { result ≤ at + longest_answer }
 {
     let mut bytes = [0u8; frames::LONGEST];
-    let frame = frames::read_frame(line, &mut bytes);
-    let kind = frame.kind;
-    let end = 1 + frame.text;
-    if let Kind::Load = kind {
-        return answers::put_load(
-            head,
+    let Some(frame) = frames::read_frame(line, &mut bytes) else {
+        return printing::put_no_frame(out, at);
+    };
+    let text = frame.text;
+    match frame.kind {
+        Kind::Load => answers::put_load(head, roots, slots, records, logarithms, text, out, at),
+        Kind::Cut(kind) => answer_cut::put_answer(
+            *head,
             roots,
             slots,
             records,
             logarithms,
-            &bytes[1..end],
+            Some(kind),
+            text,
             out,
             at,
-        );
+        ),
     }
-    let end = answer_cut::put_answer(
-        head,
-        roots,
-        slots,
-        records,
-        logarithms,
-        kind,
-        &bytes[1..end],
-        out,
-        at,
-    );
-    Answer { head, end }
 }

@@ -1,10 +1,9 @@
 -- The line of each call's answer, by what the call answers and what is written of it. Assumes nothing.
-use Prim.Native.Nat.{ℕ, ◌+◌, ◌*◌, ◌≤◌, ◌<◌}
+use Prim.Native.Nat.{ℕ, ◌+◌, ◌*◌, ◌≤◌}
 use mathlib.Core.List.{List, []}
-use mathlib.Core.Path.{◌≡◌, sym, ap, ◌∙◌}
+use mathlib.Core.Path.{◌≡◌, ap}
 use native.Mathlib.Omega.{arith}
 use lib.ListN.{length, take, length-take}
-use lib.Seq.{take_all}
 use Rattle.book.specs.Returns.{Book, number_of}
 use Rattle.book.specs.Enter.{LoadAnswer, load_of}
 use Rattle.cuts.specs.Tokens.{token_width}
@@ -12,10 +11,6 @@ use Rattle.cuts.specs.Cuts.{CutAnswer}
 use Rattle.frames.specs.declared.Kind.TheVariants.{Load}
 use Rattle.printing.specs.Answers.{line_of, Put}
 use Rattle.answers.specs.Answers.{places, NumbersOf, cut_line, longest_answer, answer_by, Answered}
-
--- more tokens than there are places take all the numbers
-pub all_numbers : (count : ℕ) → places < count → NumbersOf count (places * token_width)
-all_numbers count more = (omega arith, λ area long. take_all (places * token_width) area (omega arith) ∙ sym (take_all (count * token_width) area (omega arith)))
 
 -- a cut's answer, written with its number, its count and the numbers of its tokens
 pub cut_put : (a : CutAnswer) (out after : List ℕ) (at end number n : ℕ) → number ≡ number_of a.outcome → NumbersOf a.written.count n

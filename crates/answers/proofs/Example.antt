@@ -24,7 +24,7 @@ use Rattle.cuts.specs.Blocks.{blocks_of}
 use Rattle.cuts.specs.Edges.{walks_of, edges_within}
 use Rattle.cuts.specs.Tokens.{steps_from, pieces_of, joined, cut_route, singly, token_of}
 use Rattle.cuts.specs.Cuts.{put_spans, cut_block, cut_blocks, cut_with, cut_of}
-use Rattle.printing.specs.Answers.{fours, line_of}
+use Rattle.printing.specs.Answers.{digits, fours, line_of}
 use Rattle.frames.specs.Frames.{bytes_of, byte_of, value_of, kind_of, frame_of}
 use Rattle.answers.specs.Answers.{answer_of, answer_by, cut_line}
 use Rattle.answers.specs.Example.{ExampleFrames}
@@ -35,6 +35,6 @@ unfolding chars_of chars_within read_from byte_length encode unit_length lines_o
     start_slot log2 key_of filter_hash key_bit child_bit reach new_slots with_bits with_word empty_from empty_slot extend insert slot_count has_bit with_bit
     allowed head_damaged empty_book decide empty_slots inserted load_lines load_of words_from walk_on log_float L log_of highest_one significand next_bit
     next_significand bits_of float_of blocks_of walks_of edges_within choose route_of steps_from pieces_of joined cut_route singly token_of put_spans cut_block
-    cut_blocks cut_with cut_of count_leading_zeros span climb size odd units round neg sum add sub lt eq of_int whole bytes_of byte_of value_of kind_of frame_of fours
+    cut_blocks cut_with cut_of count_leading_zeros span climb size odd units round neg sum add sub lt eq of_int whole bytes_of byte_of value_of kind_of frame_of digits fours
     line_of answer_of answer_by cut_line
 example_frames = (refl, refl)

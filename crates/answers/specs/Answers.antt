@@ -1,15 +1,17 @@
 -- What the program `cutlines` answers to a line: document 01, "Examples by book", "Program `cutlines`". What a frame is and how an answer looks is in
 -- `frames/specs/Frames.antt` and `printing/specs/Answers.antt`; here is which call a frame asks for, in which areas, and what of its answer is printed.
 -- Assumes nothing.
-use Rattle.std.specs.Prelude.{ℕ, ◌+◌, ◌*◌, ◌≤◌, List, [], ◌≡◌, length, replicate, take}
+use Rattle.std.specs.Prelude.{ℕ, ◌+◌, ◌*◌, ◌≤◌, List, [], ◌≡◌, length, replicate, take, Option, Some, None}
 use Rattle.book.specs.Returns.{Book, number_of, empty_book}
 use Rattle.book.specs.Enter.{LoadAnswer, load_of}
 use Rattle.cuts.specs.Tokens.{token_width}
 use Rattle.cuts.specs.Cuts.{CutAnswer, cut_of, cut_all_of, cut_for_search_of}
 use Rattle.frames.specs.declared.Kind.{Kind}
-use Rattle.frames.specs.declared.Kind.TheVariants.{Load, Cut, CutAll, CutForSearch, NoFrame}
+use Rattle.frames.specs.declared.Kind.TheVariants.{Load, Cut}
+use Rattle.frames.specs.declared.CutKind.{CutKind}
+use Rattle.frames.specs.declared.CutKind.TheVariants.{Plain, All, Search}
 use Rattle.printing.specs.Answers.{line_of, no_frame_line, Put}
-use Rattle.frames.specs.Frames.{frame_of}
+use Rattle.frames.specs.Frames.{Frame, frame_of}
 
 -- ---- "It lends 256 root entries, 1,024 slots, 256 records, 1,025 work, 1,024 edge, 512 token places."
 
@@ -58,13 +60,22 @@ answer line book = record { line = line; book = book }
 
 unfoldable pub answer_by : Kind → Book → List ℕ → Answer
 answer_by Load b text = answer (load_line (load_of b text)) (load_of b text).book
-answer_by Cut b text = answer (cut_line (cut_of b work_length edge_length no_tokens text)) b
-answer_by CutAll b text = answer (cut_line (cut_all_of b work_length no_tokens text)) b
-answer_by CutForSearch b text = answer (cut_line (cut_for_search_of b work_length edge_length no_tokens text)) b
-answer_by NoFrame b text = answer no_frame_line b
+answer_by (Cut Plain) b text = answer (cut_line (cut_of b work_length edge_length no_tokens text)) b
+answer_by (Cut All) b text = answer (cut_line (cut_all_of b work_length no_tokens text)) b
+answer_by (Cut Search) b text = answer (cut_line (cut_for_search_of b work_length edge_length no_tokens text)) b
+
+-- a frame is answered by its kind, and any other line by `fe`
+abbrev pub answer_to : Option Frame → Book → Answer
+answer_to (Some f) b = answer_by f.kind b f.text
+answer_to None b = answer no_frame_line b
+
+-- a frame that asks for a cut, and what is no frame
+abbrev pub answer_cut_by : Option CutKind → Book → List ℕ → Answer
+answer_cut_by (Some kind) b text = answer_by (Cut kind) b text
+answer_cut_by None b text = answer no_frame_line b
 
 unfoldable pub answer_of : Book → List ℕ → Answer
-answer_of b line = answer_by (frame_of line).kind b (frame_of line).text
+answer_of b line = answer_to (frame_of line) b
 
 -- the same of what is written, and of the book that is left
 pub record Answered (a : Answer) (before : List ℕ) (at : ℕ) (after : List ℕ) (end : ℕ) (left : Book) : Type 0 where

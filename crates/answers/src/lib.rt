@@ -11,8 +11,8 @@ ghost use Rattle.cuts.specs.Cuts.{cut_answer, tokenize_of, cut_all_of};
 ghost use Rattle.printing.specs.Answers.{Put};
 ghost use Rattle.answers.specs.Answers.{work_length, edge_length, places, no_tokens, cut_line, NumbersOf, longest_answer, answer_by, Answered};
 
-use book::Head;
-use cuts::{Cut, TokenizeMode};
+use book::{Head, LoadError};
+use cuts::{CutError, TokenizeMode};
 use frames::Kind;
 
 // The places of a work area.
@@ -30,32 +30,29 @@ const TOKENS: usize = PLACES * cuts::TOKEN_WIDTH;
 // The bytes of the longest answer.
 pub const LONGEST_ANSWER: usize = 7 + 4 * TOKENS;
 
-// What is answered to a line: the book's head after it, and where the answer ends.
-#[derive(Clone, Copy)]
-pub struct Answer {
-    pub head: Head,
-    pub end: usize,
-}
-
 // How many numbers of the token area so many tokens take; there are no more than it has.
 fn numbers_of(count: usize) -> usize
     ensures { NumbersOf count result }
 {
-    if PLACES < count {
-        return TOKENS;
-    }
-    count * cuts::TOKEN_WIDTH
+    count.min(PLACES) * cuts::TOKEN_WIDTH
 }
 
 // Writes the line of what a cut answers.
-fn put_cut(cut: Cut, tokens: &[u32], out: &mut [u8], at: usize) -> usize
+fn put_cut(cut: Result<usize, CutError>, tokens: &[u32], out: &mut [u8], at: usize) -> usize
     requires { (length tokens.now ≡ places * token_width) × (at + longest_answer ≤ length out.old) }
     ensures put { Put out.old at (cut_line (cut_answer cut tokens.now)) out.new result }
     ensures upper_bound { result ≤ at + longest_answer }
 {
-    let outcome = cut.outcome;
-    let end = numbers_of(cut.count);
-    printing::put_answer(book::number_of(outcome), cut.count, &tokens[..end], out, at)
+    match cut {
+        Ok(count) => printing::put_answer(0, count, &tokens[..numbers_of(count)], out, at),
+        Err(CutError { refusal, count }) => printing::put_answer(
+            book::number_of(Err(refusal)),
+            count,
+            &tokens[..numbers_of(count)],
+            out,
+            at,
+        ),
+    }
 }
 
 // 02 and 04: cuts a sentence by a mode, and writes the answer.
@@ -141,7 +138,7 @@ pub fn put_cut_all(
 
 // 01: loads a dictionary, and writes the answer.
 pub fn put_load(
-    head: Head,
+    head: &mut Head,
     roots: &mut [u64],
     slots: &mut [u64],
     records: &mut [u64],
@@ -149,15 +146,20 @@ pub fn put_load(
     text: &[u8],
     out: &mut [u8],
     at: usize,
-) -> Answer
+) -> usize
     requires { at + longest_answer ≤ length out.old }
-    ensures answered { Answered (answer_by Kind.Load (book_in head roots.old slots.old records.old logarithms.old) text.now)
-        out.old at out.new result.end (book_in result.head roots.new slots.new records.new logarithms.new) }
-    ensures end_bound { result.end ≤ at + longest_answer }
+    ensures answered { Answered (answer_by Kind.Load (book_in head.old roots.old slots.old records.old logarithms.old) text.now)
+        out.old at out.new result (book_in head.new roots.new slots.new records.new logarithms.new) }
+    ensures end_bound { result ≤ at + longest_answer }
 {
-    let loaded = dict::load_dict(head, roots, slots, records, logarithms, text);
-    let outcome = loaded.outcome;
-    let end = printing::put_answer(book::number_of(outcome), loaded.line, &[], out, at);
-    let head = loaded.head;
-    Answer { head, end }
+    match dict::load_dict(head, roots, slots, records, logarithms, text) {
+        Ok(lines) => printing::put_answer(0, lines, &[], out, at),
+        Err(LoadError { refusal, line }) => printing::put_answer(
+            book::number_of(Err(refusal)),
+            line,
+            &[],
+            out,
+            at,
+        ),
+    }
 }

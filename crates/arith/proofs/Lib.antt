@@ -1,4 +1,3 @@
 -- The proofs of `arith` that more than one function or another crate uses.
 pub mod Bits
-mod Product
-mod SetBit
+pub mod SetBit

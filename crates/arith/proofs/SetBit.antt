@@ -1,25 +1,43 @@
--- The store of a bit as the code writes it, at a width of w bits: where the test found the bit 1 it answers x, else the sum of x and 1
--- shifted by n. The shift loses nothing, since n < w, and the sum does not wrap, since a number of w bits stays one.
--- Assumes nothing.
-use mathlib.Core.Path.{◌≡◌, sym, ◌∙◌}
-use mathlib.Core.Bool.{Bool, true, false}
-use Prim.Native.Nat.{ℕ, ◌+◌, ◌*◌, ◌%◌, ◌^◌, ◌<◌}
-use native.Mathlib.Nat.{one-mul, mod-eq_of_lt}
-use lib.Pow.{pow-lt}
-use Rattle.arith.specs.Bits.{has_bit, with_bit}
-use Rattle.arith.proofs.Bits.{changes_nothing_where_set, stays_within_width}
+-- The test of a bit, and its store, as the code writes them. The store is the disjunction with 1 shifted by n, which loses
+-- nothing, since n < 64. It adds what the two do not share, and they share bit n where x has it. Assumes nothing.
+use mathlib.Core.Path.{◌≡◌, refl, sym, ap, ◌∙◌}
+use mathlib.Core.Bool.{Bool, true, false, cond}
+use Prim.Native.Nat.{ℕ, ◌+◌, ◌-◌, ◌*◌, ◌/◌, ◌%◌, ◌^◌, ◌<◌}
+use native.Mathlib.Nat.{one-mul, zero-mul, mod-eq_of_lt}
+use native.Mathlib.Omega.{arith}
+use borrow.Author.Tests.{eqb-true, eqb-false}
+use lib.Pow.{pow-lt, pow-add}
+use Rattle.std.specs.Int.Bits.{bit_or, bit_and, or_add_and}
+use lib.Dec.{eqb}
+use Rattle.std.proofs.lemmas.Nat.{and_mask}
+use Rattle.std.proofs.lemmas.Nat.Bits.{and_high}
+use Rattle.arith.specs.Bits.{bit_of, has_bit, with_bit}
 
-module _ (w x n : ℕ) (found : Bool) (inside : n < w) (tested : found ≡ has_bit x n) where
-  pub already_set : found ≡ true → x ≡ with_bit x n
-  already_set e = sym (changes_nothing_where_set x n (sym tested ∙ e))
+-- what x shares with 2 ^ n
+shared : (x n : ℕ) → bit_and x (2 ^ n) ≡ bit_of x n * 2 ^ n
+shared x n =
+    let one : 2 ^ (1 + n) ≡ 2 * 2 ^ n = pow-add 2 1 n in
+    let place : 2 ^ (1 + n) - 2 ^ n ≡ 2 ^ n = omega arith in
+    ap (bit_and x) (sym place) ∙ and_high x 1 n
 
-  pub sum_is_store : found ≡ false → x + 1 * 2 ^ n % 2 ^ w ≡ with_bit x n
-  unfolding with_bit
-  sum_is_store e = rw (one-mul, mod-eq_of_lt (pow-lt inside), ← tested, e)
+by_bit : (x n : ℕ) (b : Bool) → has_bit x n ≡ b → bit_or x (2 ^ n) ≡ cond b x (x + 2 ^ n)
+unfolding has_bit
+by_bit x n true e =
+    let is_one : bit_of x n ≡ 1 = eqb-true _ _ e in
+    let common : bit_and x (2 ^ n) ≡ 2 ^ n = shared x n ∙ rw is_one (one-mul (2 ^ n)) in
+    omega (arith, or_add_and x (2 ^ n), common)
+by_bit x n false e =
+    let not_one : bit_of x n ≡ 1 → ⊥ = eqb-false _ _ e in
+    let is_zero : bit_of x n ≡ 0 = omega arith in
+    let common : bit_and x (2 ^ n) ≡ 0 = shared x n ∙ rw is_zero (zero-mul (2 ^ n)) in
+    omega (arith, or_add_and x (2 ^ n), common)
 
-  pub sum_fits : x < 2 ^ w → found ≡ false → x + 1 * 2 ^ n % 2 ^ w < 2 ^ w
-  sum_fits fits e = rw (sum_is_store e) (stays_within_width w x n fits inside)
+pub or_sets : (x n : ℕ) → n < 64 → bit_or x (1 * 2 ^ n % 2 ^ 64) ≡ with_bit x n
+unfolding with_bit
+or_sets x n inside =
+    let place : 1 * 2 ^ n % 2 ^ 64 ≡ 2 ^ n = rw (one-mul, mod-eq_of_lt (pow-lt inside)) in
+    ap (bit_or x) place ∙ by_bit x n (has_bit x n) refl
 
--- the store of a wider call, back at w bits
-pub store_fits : (w x n stored : ℕ) → x < 2 ^ w → n < w → stored ≡ with_bit x n → stored < 2 ^ w
-store_fits w x n stored fits inside e = rw e (stays_within_width w x n fits inside)
+pub bit_tested : (x n : ℕ) → eqb (bit_and (x / 2 ^ n) 1) 1 ≡ has_bit x n
+unfolding has_bit
+bit_tested x n = ap (λ (b : ℕ). eqb b 1) (and_mask (x / 2 ^ n) 1)

@@ -1,5 +1,6 @@
 -- A block by its mode: outside the class each character; of the class, what stopped its walk, or what the tokens bring along the route through its edges.
 -- Assumes nothing.
+use Rattle.std.specs.Prelude.{Err}
 use mathlib.Core.Path.{◌≡◌, refl, sym, ap, subst, ◌∙◌}
 use mathlib.Core.Bool.{Bool, true, false}
 use mathlib.Core.List.{List, [], ◌∷◌}
@@ -8,13 +9,13 @@ use native.Mathlib.Omega.{arith}
 use lib.Ieee.{Float}
 use lib.ListN.{length, get_or, take}
 use lib.Seq.{length-take-le, get_or-take}
+use Rattle.std.specs.Prelude.{Result, Ok, Err}
 use Rattle.trie.specs.Trie.{CharTrie}
 use Rattle.score.specs.Logarithm.{log_float}
 use Rattle.classes.specs.Blocks.{cut_class}
-use Rattle.book.specs.declared.Outcome.{Outcome}
-use Rattle.book.specs.declared.Outcome.TheVariants.{Damaged, EdgesFull}
+use Rattle.book.specs.declared.Refusal.TheVariants.{Damaged, EdgesFull}
 use Rattle.book.specs.Areas.{book_of}
-use Rattle.book.specs.Returns.{Book}
+use Rattle.book.specs.Returns.{Book, Outcome}
 use Rattle.book.specs.Prefixes.{Edge, words_from}
 use Rattle.route.specs.Route.{route_of}
 use Rattle.route.specs.Slices.{rows_of, EdgesFit, KeepsRoute}
@@ -25,8 +26,7 @@ use Rattle.cuts.specs.declared.TokenizeMode.{TokenizeMode}
 use Rattle.cuts.specs.declared.TokenizeMode.TheVariants.{Default, Search}
 use Rattle.cuts.specs.Tokens.{Span, Base, Written, any_of, singly, searched, cut_route}
 use Rattle.cuts.specs.Cuts.{CutAnswer, answer, put_spans, cut_edges, search_edges, cut_block, search_block}
-use Rattle.prefixes.specs.declared.Prefixes.{Prefixes}
-use Rattle.prefixes.specs.declared.Prefixes.TheVariants as Prefixes
+use Rattle.prefixes.specs.declared.PrefixError.{PrefixError}
 use Rattle.prefixes.specs.Edges.{WalkedBlock}
 use Rattle.search_words.specs.Rising.{EndsRise}
 use Rattle.search.proofs.Brought.{outside_class}
@@ -68,7 +68,7 @@ edges_by Default = cut_edges
 edges_by Search = search_edges
 
 module _ (mode : TokenizeMode) (b : Book) (n room : ℕ) (base : Base) (m : Bool) (cs : List ℕ) (w : Written) (starts ends records : List ℕ)
-    (r : Prefixes) (of_class : m ≡ true)
+    (r : Result ℕ PrefixError) (of_class : m ≡ true)
     (walked : WalkedBlock b n room cs starts ends records r) where
   by_edges : (k : TokenizeMode) (e : Edges) → edges_within room (walks_of (words_from b) 0 cs) ≡ e
       → block_by k (vocabulary_of b) room base (block_of m cs) w ≡ edges_by k (log_float b.head.total) base cs w e
@@ -89,14 +89,14 @@ module _ (mode : TokenizeMode) (b : Book) (n room : ℕ) (base : Base) (m : Bool
   routed_by Search rows = refl
 
   -- "with 8 or 10 as it meets them"
-  pub stopped_full : r ≡ Prefixes.Full → answer EdgesFull w ≡ block_by mode (vocabulary_of b) room base (block_of m cs) w
-  stopped_full told = stopped_by mode EdgesFull ∙ sym (by_edges mode (stopped EdgesFull) (subst (WalkedBlock b n room cs starts ends records) told walked))
+  pub stopped_full : r ≡ Err PrefixError.Full → answer (Err EdgesFull) w ≡ block_by mode (vocabulary_of b) room base (block_of m cs) w
+  stopped_full told = stopped_by mode (Err EdgesFull) ∙ sym (by_edges mode (stopped (Err EdgesFull)) (subst (WalkedBlock b n room cs starts ends records) told walked))
 
-  pub stopped_damaged : r ≡ Prefixes.Damaged → answer Damaged w ≡ block_by mode (vocabulary_of b) room base (block_of m cs) w
-  stopped_damaged told = stopped_by mode Damaged ∙ sym (by_edges mode (stopped Damaged) (subst (WalkedBlock b n room cs starts ends records) told walked))
+  pub stopped_damaged : r ≡ Err PrefixError.Damaged → answer (Err Damaged) w ≡ block_by mode (vocabulary_of b) room base (block_of m cs) w
+  stopped_damaged told = stopped_by mode (Err Damaged) ∙ sym (by_edges mode (stopped (Err Damaged)) (subst (WalkedBlock b n room cs starts ends records) told walked))
 
   -- "then that block's tokens": along the route, from the stored logarithms and L(total)
-  pub routed : (count : ℕ) → r ≡ Prefixes.Edges count → (logarithms : List Float) (log_total : Float) → b.logarithms ≡ logarithms
+  pub routed : (count : ℕ) → r ≡ Ok count → (logarithms : List Float) (log_total : Float) → b.logarithms ≡ logarithms
       → log_total ≡ log_float b.head.total
       → (a : CutAnswer)
       → a ≡ put_spans base cs w (tokens_by mode cs (rows_of starts ends records logarithms n)
@@ -110,8 +110,8 @@ module _ (mode : TokenizeMode) (b : Book) (n room : ℕ) (base : Base) (m : Bool
 -- ---- what the route is given, and gives
 
 -- the walk's edges fit whatever book they are seen as, and their ends rise: here one that is made of what is lent
-pub edges_rise : (t : CharTrie) (logarithms : List Float) (used n room : ℕ) (cs starts ends records : List ℕ) (r : Prefixes) (count : ℕ)
-    → used ≤ length logarithms → r ≡ Prefixes.Edges count
+pub edges_rise : (t : CharTrie) (logarithms : List Float) (used n room : ℕ) (cs starts ends records : List ℕ) (r : Result ℕ PrefixError) (count : ℕ)
+    → used ≤ length logarithms → r ≡ Ok count
     → ((b : Book) → b.trie ≡ t → b.head.records ≡ used → used ≤ length b.logarithms → WalkedBlock b n room cs starts ends records r)
     → EndsRise starts ends n
 edges_rise t logarithms used n room cs starts ends records r count within told walked =
@@ -119,8 +119,8 @@ edges_rise t logarithms used n room cs starts ends records r count within told w
     let its = subst (WalkedBlock b n room cs starts ends records) told (walked b refl refl within) in
     ends_rise b room cs starts ends records logarithms (length logarithms) n its.0 its.1
 
-pub edges_fit : (t : CharTrie) (logarithms : List Float) (used n room : ℕ) (cs starts ends records : List ℕ) (r : Prefixes) (count : ℕ)
-    → used ≤ length logarithms → r ≡ Prefixes.Edges count
+pub edges_fit : (t : CharTrie) (logarithms : List Float) (used n room : ℕ) (cs starts ends records : List ℕ) (r : Result ℕ PrefixError) (count : ℕ)
+    → used ≤ length logarithms → r ≡ Ok count
     → ((b : Book) → b.trie ≡ t → b.head.records ≡ used → used ≤ length b.logarithms → WalkedBlock b n room cs starts ends records r)
     → EdgesFit starts ends records (length logarithms) n
 edges_fit t logarithms used n room cs starts ends records r count within told walked =

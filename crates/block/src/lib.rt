@@ -14,10 +14,11 @@ ghost use Rattle.cuts.specs.Tokens.{Base, written};
 ghost use Rattle.cuts.specs.Cuts.{cut_answer};
 ghost use Rattle.block.specs.Plans.{WorkFits, Planned, block_by, OneKind};
 
-use book::Outcome;
-use cuts::{Cut, TokenizeMode};
-use prefixes::Prefixes;
+use book::Refusal;
+use cuts::{CutError, TokenizeMode};
+use prefixes::PrefixError;
 use runs::Run;
+use trie::{Slots, Tables};
 
 // What a cut goes by beside slices: its mode, and of the book the shift of its slots, the records used, and L of its total.
 #[derive(Clone, Copy)]
@@ -48,7 +49,7 @@ pub fn cut_block(
     room: usize,
     tokens: &mut [u32],
     count: usize,
-) -> Cut
+) -> Result<usize, CutError>
     requires slot_table { SlotTable (length slots.now) plan.shift × (plan.used ≤ most_records)
         × (plan.used ≤ length logarithms.now) }
     requires work_fits { WorkFits run.chars chars.now offsets.now starts.old scores.old ends.old records.old
@@ -63,10 +64,13 @@ pub fn cut_block(
     if !run.matched {
         return unmatched::cut_unmatched(chars, offsets, n, base, tokens, count);
     }
+    let slots = Slots {
+        numbers: slots,
+        shift: plan.shift,
+    };
+    let tables = Tables { roots, slots };
     match sparse_dag::for_each_prefix_at_every_char(
-        roots,
-        slots,
-        plan.shift,
+        tables,
         plan.used,
         chars,
         n,
@@ -75,15 +79,15 @@ pub fn cut_block(
         edge_records,
         room,
     ) {
-        Prefixes::Full => Cut {
-            outcome: Outcome::EdgesFull,
+        Err(PrefixError::Full) => Err(CutError {
+            refusal: Refusal::EdgesFull,
             count,
-        },
-        Prefixes::Damaged => Cut {
-            outcome: Outcome::Damaged,
+        }),
+        Err(PrefixError::Damaged) => Err(CutError {
+            refusal: Refusal::Damaged,
             count,
-        },
-        Prefixes::Edges(_) => {
+        }),
+        Ok(_) => {
             let mode = plan.mode;
             calc::calc(
                 starts,

@@ -15,8 +15,7 @@ ghost use Rattle.runs.specs.Runs.{text_from};
 ghost use Rattle.block.specs.Plans.{WorkFits, Planned, block_by};
 
 use block::Plan;
-use book::Outcome;
-use cuts::Cut;
+use cuts::CutError;
 use runs::CharacterClass;
 
 // The blocks of a sentence, one after the other, up to one that is stopped.
@@ -36,7 +35,7 @@ pub fn cut_blocks(
     edge_records: &mut [u32],
     room: usize,
     tokens: &mut [u32],
-) -> Cut
+) -> Result<usize, CutError>
     requires slot_table { SlotTable (length slots.now) plan.shift × (plan.used ≤ most_records) × (plan.used ≤ length logarithms.now) }
     requires sentence_len_bound { (length sentence.now ≤ longest_text) × IsSome (chars_of sentence.now) }
     requires work_fits { WorkFits (length (text_from sentence.now 0)) chars.old offsets.old starts.old scores.old ends.old records.old }
@@ -49,6 +48,7 @@ pub fn cut_blocks(
     let mut units: usize = 0;
     let mut base: u32 = 0;
     let mut count: usize = 0;
+    // Kept: each turn goes on behind the run that `next_recording` found, which no `for` counts.
     while splitter::has_next(sentence, at) {
         let run = runs::next_recording(
             sentence,
@@ -58,7 +58,7 @@ pub fn cut_blocks(
             chars,
             offsets,
         );
-        let cut = block::cut_block(
+        count = block::cut_block(
             roots,
             slots,
             logarithms,
@@ -76,18 +76,10 @@ pub fn cut_blocks(
             room,
             tokens,
             count,
-        );
-        let outcome = cut.outcome;
-        count = cut.count;
-        if !book::is_done(outcome) {
-            return Cut { outcome, count };
-        }
+        )?;
         base += run.chars as u32;
         units = run.units;
         at = splitter::advance(sentence, at, run.end);
     }
-    Cut {
-        outcome: Outcome::Done,
-        count,
-    }
+    Ok(count)
 }

@@ -12,7 +12,7 @@ use lib.Ieee.{Float}
 use Rattle.trie.specs.Trie.{log2, SlotCount, SlotTable, links_of, trie_of}
 use Rattle.trie.specs.SlotCounts.{most_slots, slot_count}
 use Rattle.trie.proofs.Packed.{length_children, length_words, length_keys, length_links, keys_whole}
-use Rattle.trie.proofs.Slots.{slot_count_tested, size}
+use Rattle.trie.proofs.SlotCounts.{slot_count_tested, size}
 use Rattle.book.specs.Returns.{cell_frequency, most_entries, most_records, greatest_total, allowed, sized, damaged_head, head_damaged}
 use Rattle.book.specs.Enter.{new_cell, cell_with_frequency}
 use Rattle.book.specs.declared.Head.{Head}

@@ -10,49 +10,39 @@ use borrow.Author.Tests.{ltb-true}
 use lib.Dec.{ltb}
 use lib.IntN.{ℤ, pos, negsuc}
 use lib.ListN.{get_or}
-use Rattle.trie.specs.declared.Got.{Got}
-use Rattle.trie.specs.declared.Got.TheVariants.{Held, Absent}
+use Rattle.std.specs.Prelude.{Ok, Err, Some, None}
 use Rattle.trie.specs.declared.ParentRef.{ParentRef}
 use Rattle.trie.specs.declared.ParentRef.TheVariants.{Root, RootEntry, Slot}
-use Rattle.trie.specs.declared.Step.{Step}
-use Rattle.trie.specs.declared.Step.TheVariants.{At, Nothing, Damaged}
-use Rattle.trie.specs.declared.WordNumber.{WordNumber}
-use Rattle.trie.specs.declared.WordNumber.TheVariants.{NoWord, Record, Bad}
-use Rattle.trie.specs.Trie.{CharTrie, no_word, word_number, word_at, walk, got_by_word, get_of}
+use Rattle.trie.specs.Trie.{CharTrie, no_word, word_number, word_at, walk, get_of, Step, WordNumber, damage}
 use Rattle.walk.specs.Walk.{got_of}
 
-by_number : (used n : ℕ) (z : ℤ) → word_number used z ≡ Record n → n < used
+by_number : (used n : ℕ) (z : ℤ) → word_number used z ≡ Ok (Some n) → n < used
 unfolding word_number
 by_number used n (pos k) e = go (ltb k used) refl e
   where
-    go : (t : Bool) → ltb k used ≡ t → cond t (Record k) Bad ≡ Record n → n < used
+    go : (t : Bool) → ltb k used ≡ t → cond t (Ok (Some k)) (Err damage) ≡ Ok (Some n) → n < used
     go true p q = let s : k ≡ n = cc in let l : k < used = ltb-true k used p in omega arith
     go false p q = let z : ◌≡◌ {A = ℕ} 0 1 = cc in absurd (omega arith)
 by_number used n (negsuc zero) e = let z : ◌≡◌ {A = ℕ} 0 1 = cc in absurd (omega arith)
 by_number used n (negsuc (suc k)) e = let z : ◌≡◌ {A = ℕ} 0 1 = cc in absurd (omega arith)
 
 -- a record that is read at a place is one in use
-pub record_in_use : (used n : ℕ) (t : CharTrie) (p : ParentRef) → word_at used t p ≡ Record n → n < used
+pub record_in_use : (used n : ℕ) (t : CharTrie) (p : ParentRef) → word_at used t p ≡ Ok (Some n) → n < used
 unfolding word_at
 record_in_use used n t Root e = let z : ◌≡◌ {A = ℕ} 0 1 = cc in absurd (omega arith)
 record_in_use used n t (RootEntry i) e = by_number used n (get_or t.root_words i no_word) e
 record_in_use used n t (Slot i) e = by_number used n (get_or t.words i no_word) e
 
-by_word : (used n : ℕ) (w : WordNumber) → got_by_word w ≡ Held n → w ≡ Record n
-by_word used n NoWord e = let z : ◌≡◌ {A = ℕ} 0 1 = cc in absurd (omega arith)
-by_word used n (Record k) e = cc
-by_word used n Bad e = let z : ◌≡◌ {A = ℕ} 0 1 = cc in absurd (omega arith)
-
-by_get : (used n : ℕ) (t : CharTrie) (cs : List ℕ) → get_of used t cs ≡ Held n → n < used
+by_get : (used n : ℕ) (t : CharTrie) (cs : List ℕ) → get_of used t cs ≡ Ok (Some n) → n < used
 unfolding get_of
 by_get used n t cs e = go (walk t Root cs) refl
   where
     go : (s : Step) → walk t Root cs ≡ s → n < used
-    go (At p) q = record_in_use used n t p (by_word used n (word_at used t p) (rw (q, get_of) at e))
-    go Nothing q = let z : ◌≡◌ {A = Got} Absent (Held n) = rw (q, get_of) at e in let y : ◌≡◌ {A = ℕ} 0 1 = cc in absurd (omega arith)
-    go Damaged q = let z : ◌≡◌ {A = Got} Got.Damaged (Held n) = rw (q, get_of) at e in let y : ◌≡◌ {A = ℕ} 0 1 = cc in absurd (omega arith)
+    go (Ok (Some p)) q = record_in_use used n t p (rw (q, get_of) at e)
+    go (Ok None) q = let z : ◌≡◌ {A = WordNumber} (Ok None) (Ok (Some n)) = rw (q, get_of) at e in let y : ◌≡◌ {A = ℕ} 0 1 = cc in absurd (omega arith)
+    go (Err d) q = let z : ◌≡◌ {A = WordNumber} (Err damage) (Ok (Some n)) = rw (q, get_of) at e in let y : ◌≡◌ {A = ℕ} 0 1 = cc in absurd (omega arith)
 
-pub held_used : (used n : ℕ) (t : CharTrie) (o : Option (List ℕ)) → got_of used t o ≡ Held n → n < used
+pub held_used : (used n : ℕ) (t : CharTrie) (o : Option (List ℕ)) → got_of used t o ≡ Ok (Some n) → n < used
 unfolding got_of
 held_used used n t none e = let z : ◌≡◌ {A = ℕ} 0 1 = cc in absurd (omega arith)
 held_used used n t (some cs) e = by_get used n t cs e

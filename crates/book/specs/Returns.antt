@@ -1,36 +1,42 @@
 -- Books, their sizes and their damage, and what a lookup returns: document 01, "What each call returns".
 -- Assumes nothing.
-use Rattle.std.specs.Prelude.{ℕ, ◌*◌, ◌%◌, ◌^◌, Bool, cond, ◌&&◌, ◌||◌, List, [], ◌∷◌, eqb, leb, ltb, Float, pos, length, get_or, replicate}
+use Rattle.std.specs.Prelude.{ℕ, ◌*◌, ◌%◌, ◌^◌, Bool, cond, ◌&&◌, ◌||◌, List, [], ◌∷◌, eqb, leb, ltb, Float, pos, length, get_or, replicate, Some, None, Result, Ok, Err}
+use Rattle.std.specs.Prelude as Std
 use Rattle.std.proofs.Math.Option.{Option, none, some}
 use Rattle.utf8.specs.Text.{chars_of}
-use Rattle.trie.specs.declared.Got.{Got}
-use Rattle.trie.specs.declared.Got.TheVariants.{Held}
+use Rattle.lines.specs.declared.LineError.{LineError}
+use Rattle.lines.specs.declared.LineError.TheVariants as LineError
 use Rattle.trie.specs.SlotCounts.{slot_count}
-use Rattle.trie.specs.Trie.{CharTrie, no_word, get_of}
+use Rattle.trie.specs.Trie.{CharTrie, no_word, get_of, WordNumber}
 use Rattle.score.specs.Scores.{whole, float_of}
 use Rattle.book.specs.declared.Head.{Head}
-use Rattle.book.specs.declared.Outcome.{Outcome}
-use Rattle.book.specs.declared.Outcome.TheVariants.{Done, BadAreas, TooLong, Malformed, BadFrequency, TotalTooLarge, RecordsFull, SlotsFull, Damaged}
-use Rattle.book.specs.declared.Outcome.TheVariants.{WorkTooShort, EdgesFull, TokensFull}
-use Rattle.book.specs.declared.Prepared.{Prepared}
-use Rattle.book.specs.declared.Prepared.TheVariants.{Ready, Refused}
-use Rattle.book.specs.declared.Found.{Found}
-use Rattle.book.specs.declared.Found.TheVariants.{Frequency, Absent, NotLookedUp}
+use Rattle.book.specs.declared.Refusal.{Refusal}
+use Rattle.book.specs.declared.Refusal.TheVariants.{BadAreas, TooLong, Malformed, BadFrequency, TotalTooLarge, RecordsFull, SlotsFull, Damaged}
+use Rattle.book.specs.declared.Refusal.TheVariants.{WorkTooShort, EdgesFull, TokensFull}
 
--- the number of each outcome
+-- what a line that cannot be read is refused with: "3", "4"
+abbrev pub refusal_of_line : LineError → Refusal
+refusal_of_line LineError.Malformed = Malformed
+refusal_of_line LineError.BadFrequency = BadFrequency
+
+-- a call is done, or refused for a reason of the table
+abbrev pub Outcome : Type 0
+Outcome = Result Unit Refusal
+
+-- the number that the table gives each
 abbrev pub number_of : Outcome → ℕ
-number_of Done = 0
-number_of BadAreas = 1
-number_of TooLong = 2
-number_of Malformed = 3
-number_of BadFrequency = 4
-number_of TotalTooLarge = 5
-number_of RecordsFull = 6
-number_of SlotsFull = 7
-number_of Damaged = 8
-number_of WorkTooShort = 9
-number_of EdgesFull = 10
-number_of TokensFull = 11
+number_of (Ok done) = 0
+number_of (Err BadAreas) = 1
+number_of (Err TooLong) = 2
+number_of (Err Malformed) = 3
+number_of (Err BadFrequency) = 4
+number_of (Err TotalTooLarge) = 5
+number_of (Err RecordsFull) = 6
+number_of (Err SlotsFull) = 7
+number_of (Err Damaged) = 8
+number_of (Err WorkTooShort) = 9
+number_of (Err EdgesFull) = 10
+number_of (Err TokensFull) = 11
 
 abbrev pub is_done : Outcome → Bool
 is_done o = eqb (number_of o) 0
@@ -118,37 +124,41 @@ empty_book roots slots records = record {
 
 -- what preparing answers, and the areas afterwards
 pub record PrepareAnswer : Type 0 where
-  pub prepared : Prepared
+  pub prepared : Result Head Refusal
   pub trie : CharTrie
   pub records : List ℕ
   pub logarithms : List Float
 
-abbrev pub prepare_answer : Prepared → CharTrie → List ℕ → List Float → PrepareAnswer
+abbrev pub prepare_answer : Result Head Refusal → CharTrie → List ℕ → List Float → PrepareAnswer
 prepare_answer p t r l = record { prepared = p; trie = t; records = r; logarithms = l }
 
 -- "Prepare: 1", or an empty book of the areas' sizes
 abbrev pub emptied : Book → PrepareAnswer
-emptied b = prepare_answer (Ready b.head) b.trie b.records b.logarithms
+emptied b = prepare_answer (Ok b.head) b.trie b.records b.logarithms
 
 unfoldable pub prepare_of : CharTrie → List ℕ → List Float → PrepareAnswer
 prepare_of t r l =
     cond (allowed (length t.root_children) (length t.root_words) (length t.keys) (length t.children) (length t.words) (length r) (length l))
     (emptied (empty_book (length t.root_children) (length t.keys) (length r)))
-    (prepare_answer (Refused BadAreas) t r l)
+    (prepare_answer (Err BadAreas) t r l)
 
 -- ---- lookup: "1, 2, 3, empty word (absent), 8"
 
-abbrev pub found_by : Book → Got → Found
-found_by b (Held n) = Frequency (frequency_at b n)
-found_by b Got.Absent = Absent
-found_by b Got.Damaged = NotLookedUp Damaged
+-- the frequency, or none where the word is absent
+abbrev pub Found : Type 0
+Found = Result (Std.Option ℕ) Refusal
+
+abbrev pub found_by : Book → WordNumber → Found
+found_by b (Ok (Some n)) = Ok (Some (frequency_at b n))
+found_by b (Ok None) = Ok None
+found_by b (Err d) = Err Damaged
 
 abbrev pub lookup_chars : Book → Option (List ℕ) → Found
-lookup_chars b none = NotLookedUp Malformed
-lookup_chars b (some []) = Absent
+lookup_chars b none = Err Malformed
+lookup_chars b (some []) = Ok None
 lookup_chars b (some (c ∷ cs)) =
-    cond (damaged_head b) (NotLookedUp Damaged) (found_by b (get_of b.head.records b.trie (c ∷ cs)))
+    cond (damaged_head b) (Err Damaged) (found_by b (get_of b.head.records b.trie (c ∷ cs)))
 
 unfoldable pub lookup_of : Book → List ℕ → Found
 lookup_of b word =
-    cond (sized b) (cond (leb (length word) longest_text) (lookup_chars b (chars_of word)) (NotLookedUp TooLong)) (NotLookedUp BadAreas)
+    cond (sized b) (cond (leb (length word) longest_text) (lookup_chars b (chars_of word)) (Err TooLong)) (Err BadAreas)

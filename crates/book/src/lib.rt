@@ -3,41 +3,67 @@
 
 ghost use Rattle.std.specs.Prelude.{◌≡◌, ◌≤◌};
 ghost use Rattle.trie.specs.SlotCounts.{most_slots};
-ghost use Rattle.book.specs.Returns.{number_of, cell_frequency, is_done, head_damaged};
+ghost use Rattle.book.specs.Returns.{number_of, cell_frequency, head_damaged};
 ghost use Rattle.book.specs.Enter.{cell_with_frequency};
 ghost use Rattle.book.specs.Areas.{areas_allowed};
 
-// The numbers of document 01's table, by their meaning.
-#[derive(Clone, Copy)]
-pub enum Outcome {
-    // 0
-    Done,
-    // 1: a book area outside the allowed sizes, or a token area that is not a whole number of tokens
-    BadAreas,
-    // 2: a text over 16,777,215 bytes
-    TooLong,
-    // 3: malformed UTF-8
-    Malformed,
-    // 4: a frequency malformed or over 4,294,967,295
-    BadFrequency,
-    // 5: the total would pass 4,294,967,295
-    TotalTooLarge,
-    // 6: a new word, and every record taken
-    RecordsFull,
-    // 7: a new word, and too few slots
-    SlotsFull,
-    // 8: a damaged book met
-    Damaged,
-    // 9: a work area shorter than the sentence's characters + 1
-    WorkTooShort,
-    // 10: a block has more edges than the edge area
-    EdgesFull,
-    // 11: more tokens than places
-    TokensFull,
+use lines::LineError;
+use utf8::Malformed;
+
+// The refusals of document 01's table, each by its number. A call that is done has the number 0.
+#[derive(Clone, Copy, Debug, PartialEq, Eq)]
+pub enum Refusal {
+    // A book area outside the allowed sizes, or a token area that is not a whole number of tokens.
+    BadAreas = 1,
+    // A text over 16,777,215 bytes.
+    TooLong = 2,
+    // Malformed UTF-8.
+    Malformed = 3,
+    // A frequency malformed or over 4,294,967,295.
+    BadFrequency = 4,
+    // The total would pass 4,294,967,295.
+    TotalTooLarge = 5,
+    // A new word, and every record taken.
+    RecordsFull = 6,
+    // A new word, and too few slots.
+    SlotsFull = 7,
+    // A damaged book met.
+    Damaged = 8,
+    // A work area shorter than the sentence's characters + 1.
+    WorkTooShort = 9,
+    // A block has more edges than the edge area.
+    EdgesFull = 10,
+    // More tokens than places.
+    TokensFull = 11,
+}
+
+// A text that is no UTF-8.
+impl From<Malformed> for Refusal {
+    ghost use Rattle.book.specs.declared.Refusal.TheVariants.{Malformed};
+
+    ghost from_gives = { λ _ r. r ≡ Malformed };
+
+    fn from(_e: Malformed) -> Refusal {
+        Refusal::Malformed
+    }
+}
+
+// A line that is no UTF-8, or whose frequency is none.
+impl From<LineError> for Refusal {
+    ghost use Rattle.book.specs.Returns.{refusal_of_line};
+
+    ghost from_gives = { λ e r. r ≡ refusal_of_line e };
+
+    fn from(e: LineError) -> Refusal {
+        match e {
+            LineError::Malformed => Refusal::Malformed,
+            LineError::BadFrequency => Refusal::BadFrequency,
+        }
+    }
 }
 
 // A book's head.
-#[derive(Clone, Copy)]
+#[derive(Clone, Copy, Debug, PartialEq, Eq)]
 pub struct Head {
     // Records used.
     pub records: u64,
@@ -49,55 +75,29 @@ pub struct Head {
     pub total: u64,
 }
 
-// What preparing a book answers.
-#[derive(Clone, Copy)]
-pub enum Prepared {
-    Ready(Head),
-    Refused(Outcome),
+// What stopped a load: the refusal, and its line. Lines are counted from 1; 0 is the text as a whole.
+#[derive(Clone, Copy, Debug, PartialEq, Eq)]
+pub struct LoadError {
+    pub refusal: Refusal,
+    pub line: usize,
 }
 
-// What a lookup answers.
+// How a word enters: into a record that it has, or as a new word that takes so many slots and nodes. Both carry the total
+// that follows.
 #[derive(Clone, Copy)]
-pub enum Found {
-    Frequency(u32),
-    Absent,
-    NotLookedUp(Outcome),
-}
-
-// How a word enters: not at all, into a record that it has, or as a new word that takes so many slots and nodes. The
-// last two carry the total that follows.
-#[derive(Clone, Copy)]
-pub enum Decision {
-    Refuse(Outcome),
+pub enum Entering {
     Replace(usize, u64),
     Insert(u64, u64, u64),
 }
 
-// The number of an outcome, as document 01's table has it.
-pub fn number_of(outcome: Outcome) -> u32
+// The number of a call that is done or refused, as document 01's table has it.
+pub fn number_of(outcome: Result<(), Refusal>) -> u32
     ensures { result ≡ number_of outcome }
 {
     match outcome {
-        Outcome::Done => 0,
-        Outcome::BadAreas => 1,
-        Outcome::TooLong => 2,
-        Outcome::Malformed => 3,
-        Outcome::BadFrequency => 4,
-        Outcome::TotalTooLarge => 5,
-        Outcome::RecordsFull => 6,
-        Outcome::SlotsFull => 7,
-        Outcome::Damaged => 8,
-        Outcome::WorkTooShort => 9,
-        Outcome::EdgesFull => 10,
-        Outcome::TokensFull => 11,
+        Ok(()) => 0,
+        Err(refusal) => refusal as u32,
     }
-}
-
-// Whether a call is done: its number is 0.
-pub fn is_done(outcome: Outcome) -> bool
-    ensures { result ≡ is_done outcome }
-{
-    number_of(outcome) == 0
 }
 
 // The most entries of a root table.

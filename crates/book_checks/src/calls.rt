@@ -1,7 +1,6 @@
 //! The answers of the calls on a book, each brought into one form, so that one function prints every answer.
-use addition::Added;
-use book::{Found, Head, Prepared};
-use load_lines::Loaded;
+use book::{Head, LoadError, Refusal};
+use std::fmt;
 
 // What a command answers: nothing, where it only stores; else document 01's number, with what comes beside it.
 #[derive(Clone, Copy)]
@@ -13,49 +12,47 @@ pub enum Reply {
     Line(u32, u64),
 }
 
-// The answer and the head that is left behind.
-#[derive(Clone, Copy)]
-pub struct Answer {
-    pub reply: Reply,
-    pub head: Head,
+impl fmt::Display for Reply {
+    fn fmt<W: fmt::Write>(&self, f: &mut fmt::Formatter<W>) -> fmt::Result {
+        match self {
+            Reply::Stored => write!(f, " stored"),
+            Reply::Number(n) => write!(f, " {n}"),
+            Reply::Absent => write!(f, " 0, absent"),
+            Reply::Frequency(n, frequency) => write!(f, " {n}, frequency {frequency}"),
+            Reply::Line(n, line) => write!(f, " {n}, line {line}"),
+        }
+    }
 }
 
 // A refused preparation gives no head: the old one stays.
-pub fn prepared(head: Head, answer: Prepared) -> Answer {
+pub fn prepared(head: &mut Head, answer: Result<Head, Refusal>) -> Reply {
     match answer {
-        Prepared::Ready(ready) => Answer {
-            reply: Reply::Number(0),
-            head: ready,
-        },
-        Prepared::Refused(outcome) => Answer {
-            reply: Reply::Number(book::number_of(outcome)),
-            head,
-        },
+        Ok(ready) => {
+            *head = ready;
+            Reply::Number(0)
+        }
+        Err(refusal) => Reply::Number(book::number_of(Err(refusal))),
     }
 }
 
-pub fn loaded(answer: Loaded) -> Answer {
-    let outcome = answer.outcome;
-    let head = answer.head;
-    Answer {
-        reply: Reply::Line(book::number_of(outcome), answer.line as u64),
-        head,
-    }
-}
-
-pub fn added(answer: Added) -> Answer {
-    let outcome = answer.outcome;
-    let head = answer.head;
-    Answer {
-        reply: Reply::Frequency(book::number_of(outcome), answer.frequency),
-        head,
-    }
-}
-
-pub fn found(answer: Found) -> Reply {
+pub fn loaded(answer: Result<usize, LoadError>) -> Reply {
     match answer {
-        Found::Frequency(n) => Reply::Frequency(0, n as u64),
-        Found::Absent => Reply::Absent,
-        Found::NotLookedUp(outcome) => Reply::Number(book::number_of(outcome)),
+        Ok(lines) => Reply::Line(0, lines as u64),
+        Err(LoadError { refusal, line }) => Reply::Line(book::number_of(Err(refusal)), line as u64),
+    }
+}
+
+pub fn added(answer: Result<u64, Refusal>) -> Reply {
+    match answer {
+        Ok(frequency) => Reply::Frequency(0, frequency),
+        Err(refusal) => Reply::Frequency(book::number_of(Err(refusal)), 0),
+    }
+}
+
+pub fn found(answer: Result<Option<u32>, Refusal>) -> Reply {
+    match answer {
+        Ok(Some(n)) => Reply::Frequency(0, n as u64),
+        Ok(None) => Reply::Absent,
+        Err(refusal) => Reply::Number(book::number_of(Err(refusal))),
     }
 }

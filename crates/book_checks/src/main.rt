@@ -11,39 +11,14 @@ mod calls;
 mod play;
 mod sums;
 
-use cases::output::print;
 use cases::paragraphs;
 use std::io;
 
-// The bytes that the input may have, and one more.
-const SPACE: usize = 65536;
-
-fn play_paragraph(rt: &impl Print, paragraph: &[u8]) -> io::Result<()> {
-    let mut space = [0u8; 4096];
-    let length = paragraphs::case_of(rt, paragraph, &mut space)?;
-    if 0 < length {
-        play::play_case(rt, &space[..length])?;
-    }
-    Ok(())
-}
-
-fn play_all(rt: &impl Print, text: &[u8]) -> io::Result<()> {
-    let mut at: usize = 0;
-    while at < text.len() {
-        let end = paragraphs::paragraph_end(text, at);
-        let next = end + 2;
-        play_paragraph(rt, &text[at..end])?;
-        at = next;
-    }
-    Ok(())
-}
-
 fn main(rt: HostRuntime) -> io::Result<()> {
-    let mut space = [0u8; SPACE];
-    let length = paragraphs::read(&rt, &mut rt.stdin(), &mut space)?;
-    print(
+    paragraphs::play_all(
         &rt,
+        &mut rt.stdin(),
         b"What is done: the answer; head (records used, slots used, next node, total); sum over the areas\n",
-    )?;
-    play_all(&rt, &space[..length])
+        |case| play::play_case(&rt, case),
+    )
 }

@@ -4,18 +4,14 @@
 //! The commands: `prepare`, `load TEXT`, `add WORD FREQUENCY` and `get WORD` are the calls. `head RECORDS SLOTS NEXT TOTAL` stores a
 //! head; `frequencies FROM END VALUE`, and so `table`, `root`, `keys`, `children` and `words`, store into an area. The first letter
 //! tells them apart.
-use crate::calls::{Answer, Reply};
+use crate::calls::Reply;
 use crate::{calls, sums};
 use book::Head;
-use cases::output::{print, print_decimal, print_next};
 use cases::{areas, output, script, stores};
 use std::io;
 
-// `head RECORDS SLOTS NEXT TOTAL` gives those values to the head; any other command stores none.
-fn head_after(head: Head, command: &[u8], name: u8) -> Head {
-    if name != b'h' {
-        return head;
-    }
+// The head that `head RECORDS SLOTS NEXT TOTAL` stores.
+fn stored_head(command: &[u8]) -> Head {
     Head {
         records: script::number(command, 1),
         slots: script::number(command, 2),
@@ -24,56 +20,18 @@ fn head_after(head: Head, command: &[u8], name: u8) -> Head {
     }
 }
 
-// `frequencies` stores whole records; any other command stores nothing there.
-fn store_in_records(records: &mut [u64], command: &[u8], name: u8) {
-    if name == b'f' {
-        stores::store_records(records, command);
-    }
-}
-
-// What is answered with nothing written: `get` looks a word up, and any other command has stored before.
-fn read_only(
-    head: Head,
-    roots: &[u64],
-    slots: &[u64],
-    records: &[u64],
-    logarithms: &[f64],
-    command: &[u8],
-    name: u8,
-) -> Answer {
-    if name != b'g' {
-        return Answer {
-            reply: Reply::Stored,
-            head: head_after(head, command, name),
-        };
-    }
-    let answer = lookup::lookup(
-        head,
-        roots,
-        slots,
-        records,
-        logarithms,
-        script::rest(command, 1),
-    );
-    Answer {
-        reply: calls::found(answer),
-        head,
-    }
-}
-
 // Does what a command says on the whole book.
 fn call(
-    head: Head,
+    head: &mut Head,
     roots: &mut [u64],
     slots: &mut [u64],
     records: &mut [u64],
     logarithms: &mut [f64],
     command: &[u8],
-    name: u8,
-) -> Answer {
-    match name {
-        b'p' => calls::prepared(head, prepare::prepare(roots, slots, records, logarithms)),
-        b'l' => calls::loaded(dict::load_dict(
+) -> Reply {
+    match command {
+        [b'p', ..] => calls::prepared(head, prepare::prepare(roots, slots, records, logarithms)),
+        [b'l', ..] => calls::loaded(dict::load_dict(
             head,
             roots,
             slots,
@@ -81,7 +39,7 @@ fn call(
             logarithms,
             script::rest(command, 1),
         )),
-        b'a' => calls::added(addition::add_word(
+        [b'a', ..] => calls::added(addition::add_word(
             head,
             roots,
             slots,
@@ -90,29 +48,35 @@ fn call(
             script::field(command, 1),
             script::number(command, 2),
         )),
+        [b'g', ..] => calls::found(lookup::lookup(
+            *head,
+            roots,
+            slots,
+            records,
+            logarithms,
+            script::rest(command, 1),
+        )),
         _ => {
-            stores::store_in_root(roots, command);
-            stores::store_in_slots(slots, command);
-            store_in_records(records, command, name);
-            read_only(head, roots, slots, records, logarithms, command, name)
+            store(head, roots, slots, records, command);
+            Reply::Stored
         }
     }
 }
 
-fn print_reply(rt: &impl Print, reply: Reply) -> io::Result<()> {
-    match reply {
-        Reply::Stored => print(rt, b" stored"),
-        Reply::Number(n) => print_next(rt, n as u64),
-        Reply::Absent => print(rt, b" 0, absent"),
-        Reply::Frequency(n, frequency) => {
-            print_next(rt, n as u64)?;
-            print(rt, b", frequency")?;
-            print_next(rt, frequency)
-        }
-        Reply::Line(n, line) => {
-            print_next(rt, n as u64)?;
-            print(rt, b", line")?;
-            print_next(rt, line)
+// `head`, `frequencies`, and the stores of `cases::stores`.
+fn store(
+    head: &mut Head,
+    roots: &mut [u64],
+    slots: &mut [u64],
+    records: &mut [u64],
+    command: &[u8],
+) {
+    match command {
+        [b'h', ..] => *head = stored_head(command),
+        [b'f', ..] => stores::store_records(records, command),
+        _ => {
+            stores::store_in_root(roots, command);
+            stores::store_in_slots(slots, command);
         }
     }
 }
@@ -120,84 +84,39 @@ fn print_reply(rt: &impl Print, reply: Reply) -> io::Result<()> {
 fn print_answer(
     rt: &impl Print,
     command: &[u8],
-    given: Answer,
+    reply: Reply,
+    head: Head,
     before: u64,
     after: u64,
 ) -> io::Result<()> {
-    let reply = given.reply;
-    let head = given.head;
-    output::print_command(rt, command)?;
-    print(rt, b":")?;
-    print_reply(rt, reply)?;
-    output::print_head(rt, head.records, head.slots, head.next, head.total)?;
-    print(rt, b"; areas ")?;
-    print_decimal(rt, after)?;
-    if before == after {
-        print(rt, b", unchanged\n")
+    let state = if before == after {
+        "unchanged"
     } else {
-        print(rt, b", changed\n")
-    }
+        "changed"
+    };
+    output::print_command(rt, command)?;
+    print!(rt;
+        ":{reply}; head {} {} {} {}",
+        head.records, head.slots, head.next, head.total
+    )?;
+    println!(rt; "; areas {after}, {state}")
 }
 
-// How far a script has come: the head, and the sum over the areas.
-#[derive(Clone, Copy)]
-struct State {
-    head: Head,
-    sum: u64,
-}
-
-// Prints a command's line.
-fn shown(
-    rt: &impl Print,
-    given: Answer,
-    before: u64,
-    roots: &[u64],
-    slots: &[u64],
-    records: &[u64],
-    logarithms: &[f64],
-    command: &[u8],
-) -> io::Result<State> {
-    let sum = sums::sum_of(roots, slots, records, logarithms);
-    print_answer(rt, command, given, before, sum)?;
-    let head = given.head;
-    Ok(State { head, sum })
-}
-
-// Plays one command and prints its line.
+// Plays one command and prints its line. The answer is the sum over the areas after it.
 fn turn(
     rt: &impl Print,
-    state: State,
+    head: &mut Head,
     roots: &mut [u64],
     slots: &mut [u64],
     records: &mut [u64],
     logarithms: &mut [f64],
     command: &[u8],
-) -> io::Result<State> {
-    let given = call(
-        state.head,
-        roots,
-        slots,
-        records,
-        logarithms,
-        command,
-        script::name(command),
-    );
-    shown(
-        rt, given, state.sum, roots, slots, records, logarithms, command,
-    )
-}
-
-// The state before a script: a head of zeros.
-fn start(roots: &[u64], slots: &[u64], records: &[u64], logarithms: &[f64]) -> State {
-    State {
-        head: Head {
-            records: 0,
-            slots: 0,
-            next: 0,
-            total: 0,
-        },
-        sum: sums::sum_of(roots, slots, records, logarithms),
-    }
+    before: u64,
+) -> io::Result<u64> {
+    let reply = call(head, roots, slots, records, logarithms, command);
+    let after = sums::sum_of(roots, slots, records, logarithms);
+    print_answer(rt, command, reply, *head, before, after)?;
+    Ok(after)
 }
 
 // The commands of a script one after the other.
@@ -209,21 +128,17 @@ fn play(
     logarithms: &mut [f64],
     script: &[u8],
 ) -> io::Result<()> {
-    let mut state = start(roots, slots, records, logarithms);
-    let mut at: usize = 0;
-    while at < script.len() {
-        let end = script::find(script, at, b';');
-        let next = script::next_command(script, at);
-        state = turn(
-            rt,
-            state,
-            roots,
-            slots,
-            records,
-            logarithms,
-            &script[at..end],
+    let mut head = Head {
+        records: 0,
+        slots: 0,
+        next: 0,
+        total: 0,
+    };
+    let mut sum = sums::sum_of(roots, slots, records, logarithms);
+    for command in script::commands(script) {
+        sum = turn(
+            rt, &mut head, roots, slots, records, logarithms, command, sum,
         )?;
-        at = next;
     }
     Ok(())
 }

@@ -7,16 +7,6 @@ fn mix(sum: u64, x: u64) -> u64 {
     (sum % PRIME * 1_000_003 + x % PRIME) % PRIME
 }
 
-fn sum_u64(s: &[u64], start: u64) -> u64 {
-    let mut sum = start;
-    let mut i = 0;
-    while i < s.len() {
-        sum = mix(sum, s[i]);
-        i += 1;
-    }
-    sum
-}
-
 // A logarithm is minus infinity, which counts as the prime less 1, or a whole number, which counts as itself.
 fn whole(x: f64) -> u64 {
     if x > -1.0 {
@@ -27,18 +17,9 @@ fn whole(x: f64) -> u64 {
     PRIME - 1
 }
 
-fn sum_f64(s: &[f64], start: u64) -> u64 {
-    let mut sum = start;
-    let mut i = 0;
-    while i < s.len() {
-        sum = mix(sum, whole(s[i]));
-        i += 1;
-    }
-    sum
-}
-
 // The sum over all four areas.
 pub fn sum_of(roots: &[u64], slots: &[u64], records: &[u64], logarithms: &[f64]) -> u64 {
-    let trie = sum_u64(slots, sum_u64(roots, 1));
-    sum_f64(logarithms, sum_u64(records, trie))
+    let numbers = roots.iter().chain(slots).chain(records).copied();
+    let wholes = logarithms.iter().map(|x| whole(*x));
+    numbers.chain(wholes).fold(1, |sum, x| mix(sum, x))
 }

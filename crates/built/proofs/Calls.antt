@@ -2,6 +2,7 @@
 -- A refused addition leaves book and ledger as they were. A load enters line by line; its line number tells how many lines were entered before it
 -- stopped, so the ledger has just those. Over a list of calls it goes by induction from the empty book.
 -- Assumes nothing.
+use Rattle.std.specs.Prelude.{Ok, Err}
 use mathlib.Core.Path.{◌≡◌, refl, sym, ap, ◌∙◌, subst}
 use mathlib.Core.Bool.{Bool, true, false, cond}
 use mathlib.Core.Logic.{◌≢◌}
@@ -15,12 +16,10 @@ use lib.ListN.{length, take}
 use lib.Seq.{take-length}
 use Rattle.utf8.specs.Text.{chars_of}
 use Rattle.lines.specs.Lines.{lines_of, Meaning, malformed, blank, bad_frequency, entry, meaning_of}
-use Rattle.book.specs.declared.Decision.{Decision}
-use Rattle.book.specs.declared.Decision.TheVariants.{Refuse, Replace, Insert}
-use Rattle.book.specs.declared.Outcome.{Outcome}
-use Rattle.book.specs.declared.Outcome.TheVariants.{TooLong, Malformed, BadFrequency}
-use Rattle.book.specs.Returns.{number_of, Book, longest_text, greatest_total, empty_book}
-use Rattle.book.specs.Enter.{decide, replaced, inserted, AddAnswer, add_refused, add_by, add_chars, add_of, LoadAnswer, load_answer, enter, load_lines, load_of}
+use Rattle.book.specs.declared.Entering.TheVariants.{Replace, Insert}
+use Rattle.book.specs.declared.Refusal.TheVariants.{TooLong, Malformed, BadFrequency}
+use Rattle.book.specs.Returns.{number_of, Book, longest_text, greatest_total, empty_book, Outcome}
+use Rattle.book.specs.Enter.{decide, replaced, inserted, AddAnswer, add_refused, add_by, add_chars, add_of, LoadAnswer, load_answer, enter, load_lines, load_of, Decision}
 use Rattle.built.specs.Ledger.{Entry, enter_in, ledger_after_add, enter_line, enter_lines, lines_before, ledger_after_load}
 use Rattle.built.specs.Calls.{Call, Load, Add, answer_of, book_after, ledger_after, book_after_all, answers_of, ledger_after_all, allowed_sizes, book_from}
 use Rattle.built.specs.Calls.{answers_from, ledger_from}
@@ -44,20 +43,20 @@ module _ {b : Book} {ledger : List Entry} (built : Built b ledger) (text : List 
   add_decided : (c : ℕ) (cs : List ℕ) → chars_of text ≡ some (c ∷ cs) → (d : Decision) → Decided built (c ∷ cs) frequency d
       → AddKept (add_by b (c ∷ cs) frequency d)
   unfolding ledger_after_add
-  add_decided c cs e d (refuses {o} refused undamaged) = add_refused_lem o refused undamaged
+  add_decided c cs e d (refuses {x} refused undamaged) = add_refused_lem (Err x) refused undamaged
   add_decided c cs e d (replaces h) = (rw e h, (λ q. omega arith))
   add_decided c cs e d (inserts h) = (rw e h, (λ q. omega arith))
 
   add_word : (c : ℕ) (cs : List ℕ) → chars_of text ≡ some (c ∷ cs) → AddKept (add_chars b (some (c ∷ cs)) frequency)
   add_word c cs e = rw (head_undamaged built) (go (leb frequency greatest_total))
     where
-      go : (t : Bool) → AddKept (cond t (add_by b (c ∷ cs) frequency (decide b (c ∷ cs) frequency)) (add_refused b BadFrequency))
+      go : (t : Bool) → AddKept (cond t (add_by b (c ∷ cs) frequency (decide b (c ∷ cs) frequency)) (add_refused b (Err BadFrequency)))
       go true = add_decided c cs e _ (decided built (c ∷ cs) frequency (λ q. let z : ◌≡◌ {A = ℕ} 0 1 = cc in omega arith) (text_characters text (c ∷ cs) e))
-      go false = add_refused_lem BadFrequency (λ q. omega arith) (λ q. omega arith)
+      go false = add_refused_lem (Err BadFrequency) (λ q. omega arith) (λ q. omega arith)
 
   add_chars_lem : (o : Option (List ℕ)) → chars_of text ≡ o → AddKept (add_chars b o frequency)
   unfolding ledger_after_add
-  add_chars_lem none e = add_refused_lem Malformed (λ q. omega arith) (λ q. omega arith)
+  add_chars_lem none e = add_refused_lem (Err Malformed) (λ q. omega arith) (λ q. omega arith)
   add_chars_lem (some []) e = (rw e built, (λ q. omega arith))
   add_chars_lem (some (c ∷ cs)) e = add_word c cs e
 
@@ -65,22 +64,22 @@ module _ {b : Book} {ledger : List Entry} (built : Built b ledger) (text : List 
   unfolding add_of
   add_kept = rw (sizes_allowed built) (go (leb (length text) longest_text))
     where
-      go : (t : Bool) → AddKept (cond t (add_chars b (chars_of text) frequency) (add_refused b TooLong))
+      go : (t : Bool) → AddKept (cond t (add_chars b (chars_of text) frequency) (add_refused b (Err TooLong)))
       go true = add_chars_lem (chars_of text) refl
-      go false = add_refused_lem TooLong (λ q. omega arith) (λ q. omega arith)
+      go false = add_refused_lem (Err TooLong) (λ q. omega arith) (λ q. omega arith)
 
 -- ---- a load's lines
 
 -- what a load does at a line, by its meaning, and at a word, by the decision
 abbrev by_decision : Book → ℕ → List (List ℕ) → List ℕ → ℕ → Decision → LoadAnswer
-by_decision b n ls word frequency (Refuse o) = load_answer o (n + 1) b
-by_decision b n ls word frequency (Replace r total) = load_lines (replaced b r frequency total) (n + 1) ls
-by_decision b n ls word frequency (Insert slots nodes total) = load_lines (inserted b word frequency slots nodes total) (n + 1) ls
+by_decision b n ls word frequency (Err x) = load_answer (Err x) (n + 1) b
+by_decision b n ls word frequency (Ok (Replace r total)) = load_lines (replaced b r frequency total) (n + 1) ls
+by_decision b n ls word frequency (Ok (Insert slots nodes total)) = load_lines (inserted b word frequency slots nodes total) (n + 1) ls
 
 abbrev by_meaning : Book → ℕ → List (List ℕ) → Meaning → LoadAnswer
-by_meaning b n ls malformed = load_answer Malformed (n + 1) b
+by_meaning b n ls malformed = load_answer (Err Malformed) (n + 1) b
 by_meaning b n ls blank = load_lines b (n + 1) ls
-by_meaning b n ls bad_frequency = load_answer BadFrequency (n + 1) b
+by_meaning b n ls bad_frequency = load_answer (Err BadFrequency) (n + 1) b
 by_meaning b n ls (entry word frequency) = by_decision b n ls word frequency (enter b word frequency)
 
 load_line_lem : (b : Book) (n : ℕ) (l : List ℕ) (ls : List (List ℕ)) → load_lines b n (l ∷ ls) ≡ by_meaning b n ls (meaning_of l)
@@ -89,23 +88,23 @@ load_line_lem b n l ls = go (meaning_of l)
   where
     decision : (word : List ℕ) (frequency : ℕ) (d : Decision)
         → ◌≡◌ {A = LoadAnswer} (elim d [
-          | Refuse o ↦ load_answer o (n + 1) b
-          | Replace r total ↦ load_lines (replaced b r frequency total) (n + 1) ls
-          | Insert slots nodes total ↦ load_lines (inserted b word frequency slots nodes total) (n + 1) ls
+          | Err x ↦ load_answer (Err x) (n + 1) b
+          | Ok (Replace r total) ↦ load_lines (replaced b r frequency total) (n + 1) ls
+          | Ok (Insert slots nodes total) ↦ load_lines (inserted b word frequency slots nodes total) (n + 1) ls
         ]) (by_decision b n ls word frequency d)
-    decision word frequency (Refuse o) = refl
-    decision word frequency (Replace r total) = refl
-    decision word frequency (Insert slots nodes total) = refl
+    decision word frequency (Err x) = refl
+    decision word frequency (Ok (Replace r total)) = refl
+    decision word frequency (Ok (Insert slots nodes total)) = refl
 
     go : (m : Meaning)
         → ◌≡◌ {A = LoadAnswer} (elim m [
-          | malformed ↦ load_answer Malformed (n + 1) b
+          | malformed ↦ load_answer (Err Malformed) (n + 1) b
           | blank ↦ load_lines b (n + 1) ls
-          | bad_frequency ↦ load_answer BadFrequency (n + 1) b
+          | bad_frequency ↦ load_answer (Err BadFrequency) (n + 1) b
           | entry word frequency ↦ elim (enter b word frequency) [
-            | Refuse o ↦ load_answer o (n + 1) b
-            | Replace r total ↦ load_lines (replaced b r frequency total) (n + 1) ls
-            | Insert slots nodes total ↦ load_lines (inserted b word frequency slots nodes total) (n + 1) ls
+            | Err x ↦ load_answer (Err x) (n + 1) b
+            | Ok (Replace r total) ↦ load_lines (replaced b r frequency total) (n + 1) ls
+            | Ok (Insert slots nodes total) ↦ load_lines (inserted b word frequency slots nodes total) (n + 1) ls
           ]
         ]) (by_meaning b n ls m)
     go malformed = refl
@@ -154,14 +153,14 @@ module _ {b : Book} {ledger : List Entry} (built : Built b ledger) (n : ℕ) whe
   module _ (l : List ℕ) (ls : List (List ℕ)) (others : (c : Book) (m : List Entry) → Built c m → LinesKept m (n + 1) ls (load_lines c (n + 1) ls)) where
     decided_kept : (word : List ℕ) (frequency : ℕ) → meaning_of l ≡ entry word frequency → (d : Decision) → Decided built word frequency d
         → LinesKept ledger n (l ∷ ls) (by_decision b n ls word frequency d)
-    decided_kept word frequency e d (refuses {o} refused undamaged) = line_refused o refused undamaged
+    decided_kept word frequency e d (refuses {x} refused undamaged) = line_refused (Err x) refused undamaged
     decided_kept word frequency e d (replaces h) = line_kept (entry word frequency) e (others _ (enter_in ledger word frequency) h)
     decided_kept word frequency e d (inserts h) = line_kept (entry word frequency) e (others _ (enter_in ledger word frequency) h)
 
     meaning_kept : (m : Meaning) → meaning_of l ≡ m → LinesKept ledger n (l ∷ ls) (by_meaning b n ls m)
-    meaning_kept malformed e = line_refused Malformed (λ q. omega arith) (λ q. omega arith)
+    meaning_kept malformed e = line_refused (Err Malformed) (λ q. omega arith) (λ q. omega arith)
     meaning_kept blank e = line_kept blank e (others b ledger built)
-    meaning_kept bad_frequency e = line_refused BadFrequency (λ q. omega arith) (λ q. omega arith)
+    meaning_kept bad_frequency e = line_refused (Err BadFrequency) (λ q. omega arith) (λ q. omega arith)
     meaning_kept (entry word frequency) e =
         let w = line_word l word frequency e in
         decided_kept word frequency e (enter b word frequency) (enter_decided built word frequency w.0 w.1)
@@ -193,7 +192,7 @@ module _ {b : Book} {ledger : List Entry} (built : Built b ledger) (text : List 
           rw refused (subst (λ (n : ℕ). Built a.book (enter_lines ledger (take n (lines_of text)))) before k.built)
 
   -- a text that is too long: no line
-  load_too_long : LoadKept (load_answer TooLong 0 b)
+  load_too_long : LoadKept (load_answer (Err TooLong) 0 b)
   unfolding ledger_after_load enter_lines
   load_too_long = (built, (λ q. omega arith))
 
@@ -201,7 +200,7 @@ module _ {b : Book} {ledger : List Entry} (built : Built b ledger) (text : List 
   unfolding load_of
   load_kept = rw (sizes_allowed built) (go (leb (length text) longest_text))
     where
-      go : (t : Bool) → LoadKept (cond t (load_lines b 0 (lines_of text)) (load_answer TooLong 0 b))
+      go : (t : Bool) → LoadKept (cond t (load_lines b 0 (lines_of text)) (load_answer (Err TooLong) 0 b))
       go true = load_lines_lem (load_lines b 0 (lines_of text)) (lines_kept (lines_of text) b ledger built 0)
       go false = load_too_long
 

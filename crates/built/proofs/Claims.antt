@@ -1,6 +1,7 @@
 -- The claims about books built by calls, each from the invariant: every list of calls leaves a built book (`Calls`), in which lookups and walks answer
 -- by the ledger (`Lookups`), the head is within its bounds (`Entering`), and the total is the ledger's sum.
 -- Assumes nothing.
+use Rattle.std.specs.Prelude.{Err}
 use mathlib.Core.Path.{◌≡◌, refl, sym, ap, ◌∙◌}
 use mathlib.Core.Bool.{Bool, true, false, cond}
 use mathlib.Core.List.{List, [], ◌∷◌, ◌++◌, append_assoc}
@@ -9,10 +10,8 @@ use Prim.Native.Nat.{ℕ, suc, ◌+◌}
 use lib.Dec.{leb}
 use lib.ListN.{length, take}
 use Rattle.utf8.specs.Text.{chars_of}
-use Rattle.trie.specs.declared.Got.{Got}
-use Rattle.trie.specs.Trie.{walk, word_at, get_of}
-use Rattle.book.specs.declared.Found.TheVariants.{NotLookedUp}
-use Rattle.book.specs.declared.Outcome.TheVariants.{TooLong}
+use Rattle.trie.specs.Trie.{walk, word_at, get_of, WordNumber}
+use Rattle.book.specs.declared.Refusal.TheVariants.{TooLong}
 use Rattle.book.specs.Returns.{Book, sized, longest_text, empty_book, emptied, prepare_of, found_by, lookup_chars, lookup_of}
 use Rattle.built.specs.Ledger.{Entry, frequency_in, found_in_ledger, ledger_lookup_chars, ledger_lookup, words_after, ledger_words}
 use Rattle.built.specs.Calls.{book_after_all, ledger_after_all, after}
@@ -49,7 +48,7 @@ pub held_as_ledger : HeldAsLedger
 held_as_ledger b ledger by word s = got_in b ledger (built_has_invariant b ledger by) word (scalars_within word s)
 
 -- the public answer of what is found
-found_as_lem : (b : Book) (f : Option ℕ) (g : Got) → HeldAs b f g → found_by b g ≡ found_in_ledger f
+found_as_lem : (b : Book) (f : Option ℕ) (g : WordNumber) → HeldAs b f g → found_by b g ≡ found_in_ledger f
 found_as_lem b f g (held h e l) = rw e
 found_as_lem b f g absent = refl
 
@@ -65,7 +64,7 @@ lookup_as_ledger b ledger by text = rw (sizes_allowed built) (go (leb (length te
     chars (some []) e = found_as_lem b _ _ (got_in b ledger built [] tt)
     chars (some (c ∷ cs)) e = rw (head_undamaged built) (found_as_lem b _ _ (got_in b ledger built (c ∷ cs) (text_characters text (c ∷ cs) e)))
 
-    go : (t : Bool) → cond t (lookup_chars b (chars_of text)) (NotLookedUp TooLong) ≡ cond t (ledger_lookup_chars ledger (chars_of text)) (NotLookedUp TooLong)
+    go : (t : Bool) → cond t (lookup_chars b (chars_of text)) (Err TooLong) ≡ cond t (ledger_lookup_chars ledger (chars_of text)) (Err TooLong)
     go true = chars (chars_of text) refl
     go false = refl
 

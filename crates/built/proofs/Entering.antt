@@ -3,6 +3,7 @@
 -- root; a lookup and the insertion's own walk end at known nodes; a record's frequency is at most the total, which is their sum; and where the slots
 -- used and the new ones are at most three quarters of all, there are empty slots enough and node numbers too.
 -- Assumes nothing.
+use Rattle.std.specs.Prelude.{Ok, Err}
 use mathlib.Core.Path.{◌≡◌, refl, ap, subst}
 use mathlib.Core.Bool.{Bool, true, false, cond, ◌||◌}
 use mathlib.Core.Logic.{◌≢◌}
@@ -13,22 +14,16 @@ use native.Mathlib.Omega.{arith}
 use borrow.Author.Tests.{leb-true, leb-false, ltb-true, ltb-false, le-ltb}
 use lib.Dec.{leb, ltb}
 use lib.ListN.{length}
-use Rattle.trie.specs.declared.Got.{Got}
-use Rattle.trie.specs.declared.Got.TheVariants.{Held, Absent}
+use Rattle.std.specs.Prelude.{Ok, Err, Some, None}
 use Rattle.trie.specs.declared.ParentRef.{ParentRef}
 use Rattle.trie.specs.declared.ParentRef.TheVariants.{Root}
-use Rattle.trie.specs.declared.Step.{Step}
-use Rattle.trie.specs.declared.Step.TheVariants.{At, Nothing, Damaged}
-use Rattle.trie.specs.declared.WordNumber.{WordNumber}
-use Rattle.trie.specs.declared.WordNumber.TheVariants.{Record}
-use Rattle.trie.specs.Trie.{from_root, open_step, word_at, get_of, Reach, Reached, NoEnd, reach, new_slots}
-use Rattle.book.specs.declared.Decision.{Decision}
-use Rattle.book.specs.declared.Decision.TheVariants.{Refuse, Replace, Insert}
-use Rattle.book.specs.declared.Outcome.{Outcome}
-use Rattle.book.specs.declared.Outcome.TheVariants.{TotalTooLarge, RecordsFull, SlotsFull}
+use Rattle.trie.specs.Trie.{from_root, open_step, word_at, get_of, Reach, Reached, NoEnd, reach, new_slots, Step, WordNumber}
+use Rattle.book.specs.declared.Entering.TheVariants.{Replace, Insert}
+use Rattle.book.specs.declared.Refusal.{Refusal}
+use Rattle.book.specs.declared.Refusal.TheVariants.{TotalTooLarge, RecordsFull, SlotsFull}
 use Rattle.trie.specs.SlotCounts.{most_slots}
 use Rattle.book.specs.Returns.{number_of, Book, frequency_at, greatest_total, greatest_next, head_damaged, damaged_head, sized}
-use Rattle.book.specs.Enter.{decide_held, no_record, empty_slots, decide_new, decide_reached, decide_absent, decide, enter, replaced, inserted}
+use Rattle.book.specs.Enter.{decide_held, no_record, empty_slots, decide_new, decide_reached, decide_absent, decide, enter, replaced, inserted, Decision}
 use Rattle.built.specs.Ledger.{Entry, frequency_in, enter_in}
 use Rattle.built.specs.Built.{Agrees, not_entered, in_record, Built}
 use Rattle.built.proofs.AllowedSizes.{allowed_of}
@@ -87,16 +82,16 @@ module _ {b : Book} {ledger : List Entry} (built : Built b ledger) where
 
   -- a refusal with a number other than 8, or a writing that is built with the word entered
   pub data Decided (word : List ℕ) (frequency : ℕ) : Decision → Type 0 where
-    refuses : {o : Outcome} → number_of o ≢ 0 → number_of o ≢ 8 → Decided word frequency (Refuse o)
-    replaces : {n total : ℕ} → Built (replaced b n frequency total) (enter_in ledger word frequency) → Decided word frequency (Replace n total)
+    refuses : {x : Refusal} → number_of (Err x) ≢ 0 → number_of (Err x) ≢ 8 → Decided word frequency (Err x)
+    replaces : {n total : ℕ} → Built (replaced b n frequency total) (enter_in ledger word frequency) → Decided word frequency (Ok (Replace n total))
     inserts : {slots nodes total : ℕ} → Built (inserted b word frequency slots nodes total) (enter_in ledger word frequency)
-        → Decided word frequency (Insert slots nodes total)
+        → Decided word frequency (Ok (Insert slots nodes total))
 
   module _ (word : List ℕ) (frequency : ℕ) where
     -- a held word
     module _ (m n : ℕ) (known : m < b.head.next) (named : built.name m ≡ reverse word)
-        (its_record : word_at b.head.records b.trie (built.place m) ≡ Record n) where
-      agrees : Agrees b ledger word (Record n)
+        (its_record : word_at b.head.records b.trie (built.place m) ≡ Ok (Some n)) where
+      agrees : Agrees b ledger word (Ok (Some n))
       agrees = record_agrees built.tables word m n known named its_record
 
       -- its frequency is one of those that the total sums
@@ -112,9 +107,9 @@ module _ {b : Book} {ledger : List Entry} (built : Built b ledger) where
       held_decided = go _ _ refl refl
         where
           go : (above within : Bool) → ltb b.head.total (frequency_at b n) ≡ above → leb replaced_total greatest_total ≡ within
-              → Decided word frequency (cond above (Refuse Outcome.Damaged) (cond within (Replace n replaced_total) (Refuse TotalTooLarge)))
+              → Decided word frequency (cond above (Err Refusal.Damaged) (cond within (Ok (Replace n replaced_total)) (Err TotalTooLarge)))
           go true within ea ew = let above : b.head.total < frequency_at b n = ltb-true _ _ ea in absurd (omega (arith, frequency_within))
-          go false false ea ew = refuses {o = TotalTooLarge} (λ e. omega arith) (λ e. omega arith)
+          go false false ea ew = refuses {x = TotalTooLarge} (λ e. omega arith) (λ e. omega arith)
           go false true ea ew = replaces (replaced_built built word m n frequency replaced_total known named its_record agrees refl (leb-true _ _ ew))
 
     -- a new word
@@ -151,11 +146,11 @@ module _ {b : Book} {ledger : List Entry} (built : Built b ledger) where
               → ltb (length b.trie.keys * 6) ((b.head.slots + taken p rest) * 8) ≡ t7 → ltb (empty_slots b.trie.keys) (taken p rest) ≡ t8
               → ltb greatest_next (b.head.next + length rest) ≡ t9
               → Decided word frequency
-              (cond t5 (Refuse TotalTooLarge) (cond t6 (Refuse RecordsFull) (cond t7 (Refuse SlotsFull)
-              (cond t8 (Refuse Outcome.Damaged) (cond t9 (Refuse Outcome.Damaged) (Insert (taken p rest) (length rest) (b.head.total + frequency)))))))
-          go true t6 t7 t8 t9 e5 e6 e7 e8 e9 = refuses {o = TotalTooLarge} (λ e. omega arith) (λ e. omega arith)
-          go false true t7 t8 t9 e5 e6 e7 e8 e9 = refuses {o = RecordsFull} (λ e. omega arith) (λ e. omega arith)
-          go false false true t8 t9 e5 e6 e7 e8 e9 = refuses {o = SlotsFull} (λ e. omega arith) (λ e. omega arith)
+              (cond t5 (Err TotalTooLarge) (cond t6 (Err RecordsFull) (cond t7 (Err SlotsFull)
+              (cond t8 (Err Refusal.Damaged) (cond t9 (Err Refusal.Damaged) (Ok (Insert (taken p rest) (length rest) (b.head.total + frequency))))))))
+          go true t6 t7 t8 t9 e5 e6 e7 e8 e9 = refuses {x = TotalTooLarge} (λ e. omega arith) (λ e. omega arith)
+          go false true t7 t8 t9 e5 e6 e7 e8 e9 = refuses {x = RecordsFull} (λ e. omega arith) (λ e. omega arith)
+          go false false true t8 t9 e5 e6 e7 e8 e9 = refuses {x = SlotsFull} (λ e. omega arith) (λ e. omega arith)
           go false false false true t9 e5 e6 e7 e8 e9 =
               let room : (b.head.slots + taken p rest) * 8 ≤ length b.trie.keys * 6 = ltb-false _ _ e7 in
               let few : empty_slots b.trie.keys < taken p rest = ltb-true _ _ e8 in
@@ -181,10 +176,10 @@ module _ {b : Book} {ledger : List Entry} (built : Built b ledger) where
       reach_ends (c ∷ cs) n h w = go (open_step b.trie (built.place n) c) refl (λ m hm. reach_ends cs m hm w.1)
         where
           go : (s : Step) → open_step b.trie (built.place n) c ≡ s → ((m : ℕ) → m < b.head.next → Ends (reach b.trie (built.place m) cs))
-              → Ends (elim s [ At q ↦ reach b.trie q cs | Nothing ↦ Reached (built.place n) (c ∷ cs) | Damaged ↦ NoEnd ])
-          go (At q) e rest = let led = built.tables.tree.led n c q h w.0 e in rw led.placed (rest led.node led.known)
-          go Nothing e rest = ends_at h
-          go Damaged e rest = absurd (undamaged_step built.tables.sizes built.tables.store (built.place n) c e)
+              → Ends (elim s [ Ok (Some q) ↦ reach b.trie q cs | Ok None ↦ Reached (built.place n) (c ∷ cs) | Err d ↦ NoEnd ])
+          go (Ok (Some q)) e rest = let led = built.tables.tree.led n c q h w.0 e in rw led.placed (rest led.node led.known)
+          go (Ok None) e rest = ends_at h
+          go (Err d) e rest = absurd (undamaged_step built.tables.sizes built.tables.store (built.place n) c e)
 
       -- no word number there is bad
       reached_decided : (p : ParentRef) (rest v : List ℕ) (number : WordNumber) → Agrees b ledger v number
@@ -208,11 +203,11 @@ module _ {b : Book} {ledger : List Entry} (built : Built b ledger) where
     unfolding decide
     decided not_empty characters = go (get_of b.head.records b.trie word) (located built.tables word characters)
       where
-        go : (g : Got) → Located built.tables word g
+        go : (g : WordNumber) → Located built.tables word g
             → Decided word frequency (elim g [
-              | Held n ↦ decide_held b n frequency
-              | Absent ↦ decide_absent b (reach b.trie Root word) frequency
-              | Got.Damaged ↦ Refuse Outcome.Damaged
+              | Ok (Some n) ↦ decide_held b n frequency
+              | Ok None ↦ decide_absent b (reach b.trie Root word) frequency
+              | Err d ↦ Err Refusal.Damaged
             ])
         go g (at_node {m} {n} h e en) = held_decided m n h e en
         go g (nowhere e) = absent_decided not_empty characters e

@@ -12,11 +12,9 @@ use Prim.Native.Nat.{ℕ, ◌+◌, ◌^◌, ◌<◌}
 use native.Mathlib.Omega.{arith}
 use borrow.Author.Tests.{eq-eqb, ne_eqb, eqb-true, eqb-false}
 use lib.Dec.{eqb}
+use Rattle.std.specs.Prelude.{Ok, Some, None}
 use Rattle.trie.specs.declared.ParentRef.{ParentRef}
-use Rattle.trie.specs.declared.Step.TheVariants.{At, Nothing}
-use Rattle.trie.specs.declared.WordNumber.{WordNumber}
-use Rattle.trie.specs.declared.WordNumber.TheVariants.{NoWord, Record}
-use Rattle.trie.specs.Trie.{CharTrie, node_at, open_step, bits_at, word_at}
+use Rattle.trie.specs.Trie.{CharTrie, node_at, open_step, bits_at, word_at, WordNumber}
 use Rattle.book.specs.Returns.{Book}
 use Rattle.built.specs.Ledger.{Entry, frequency_in}
 use Rattle.built.specs.Built.{Child, LedTo, Tree, Agrees, not_entered, NodeOf, Words, update_at}
@@ -46,15 +44,15 @@ below_or_last m n h = go _ refl
 pub record Grown (t t' : CharTrie) (next : ℕ) (place : ℕ → ParentRef) (parent c : ℕ) (new : ParentRef) : Type 0 where
   pub known : parent < next
   pub within : c < 2 ^ 21
-  pub absent : open_step t (place parent) c ≡ Nothing
-  pub step_new : open_step t' (place parent) c ≡ At new
+  pub absent : open_step t (place parent) c ≡ Ok None
+  pub step_new : open_step t' (place parent) c ≡ Ok (Some new)
   pub node_new : node_at t' new ≡ next
-  pub word_new : (used : ℕ) → word_at used t' new ≡ NoWord
-  pub childless : (d : ℕ) (q : ParentRef) → d < 2 ^ 21 → open_step t' new d ≢ At q
+  pub word_new : (used : ℕ) → word_at used t' new ≡ Ok None
+  pub childless : (d : ℕ) (q : ParentRef) → d < 2 ^ 21 → open_step t' new d ≢ Ok (Some q)
   pub node_kept : (n : ℕ) → n < next → node_at t' (place n) ≡ node_at t (place n)
-  pub step_kept : (n d : ℕ) (q : ParentRef) → n < next → open_step t (place n) d ≡ At q → open_step t' (place n) d ≡ At q
-  pub step_back : (n d : ℕ) (q : ParentRef) → n < next → d < 2 ^ 21 → open_step t' (place n) d ≡ At q
-      → (open_step t (place n) d ≡ At q) ⊎ ((n ≡ parent) × (d ≡ c) × (q ≡ new))
+  pub step_kept : (n d : ℕ) (q : ParentRef) → n < next → open_step t (place n) d ≡ Ok (Some q) → open_step t' (place n) d ≡ Ok (Some q)
+  pub step_back : (n d : ℕ) (q : ParentRef) → n < next → d < 2 ^ 21 → open_step t' (place n) d ≡ Ok (Some q)
+      → (open_step t (place n) d ≡ Ok (Some q)) ⊎ ((n ≡ parent) × (d ≡ c) × (q ≡ new))
   pub bits_there : bits_at t (place parent) c ≡ true
   pub bits_kept : (n d : ℕ) → n < next → bits_at t (place n) d ≡ true → bits_at t' (place n) d ≡ true
   pub word_kept : (used n : ℕ) → n < next → word_at used t' (place n) ≡ word_at used t (place n)
@@ -106,7 +104,7 @@ module _ {t t' : CharTrie} {next : ℕ} {name : ℕ → List ℕ} {place : ℕ �
     node = rw new_place grown.node_new;
   }
 
-  old_led : (n d : ℕ) (q : ParentRef) → n < next → d < 2 ^ 21 → open_step t (place n) d ≡ At q → LedTo t' (next + 1) name' place' n d q
+  old_led : (n d : ℕ) (q : ParentRef) → n < next → d < 2 ^ 21 → open_step t (place n) d ≡ Ok (Some q) → LedTo t' (next + 1) name' place' n d q
   old_led n d q h l e =
       let o = tree.led n d q h l e in
       record {
@@ -138,12 +136,12 @@ module _ {t t' : CharTrie} {next : ℕ} {name : ℕ → List ℕ} {place : ℕ �
       child_by n s (inl h) = old_child n s h
       child_by n s (inr e) = rw e new_child
 
-      back : (n d : ℕ) (q : ParentRef) → n < next → d < 2 ^ 21 → (open_step t (place n) d ≡ At q) ⊎ ((n ≡ parent) × (d ≡ c) × (q ≡ new))
+      back : (n d : ℕ) (q : ParentRef) → n < next → d < 2 ^ 21 → (open_step t (place n) d ≡ Ok (Some q)) ⊎ ((n ≡ parent) × (d ≡ c) × (q ≡ new))
           → LedTo t' (next + 1) name' place' n d q
       back n d q h l (inl e) = old_led n d q h l e
       back n d q h l (inr e) = rw (e.0, e.1, e.2) new_led
 
-      led_by : (n d : ℕ) (q : ParentRef) → (n < next) ⊎ (n ≡ next) → d < 2 ^ 21 → open_step t' (place' n) d ≡ At q → LedTo t' (next + 1) name' place' n d q
+      led_by : (n d : ℕ) (q : ParentRef) → (n < next) ⊎ (n ≡ next) → d < 2 ^ 21 → open_step t' (place' n) d ≡ Ok (Some q) → LedTo t' (next + 1) name' place' n d q
       led_by n d q (inl h) l e = back n d q h l (grown.step_back n d q h l (rw (old_place n h) at e))
       led_by n d q (inr s) l e = absurd (grown.childless d q l (rw (s, new_place) at e))
 
@@ -169,15 +167,15 @@ module _ {t t' : CharTrie} {next : ℕ} {name : ℕ → List ℕ} {place : ℕ �
         entered_by : (word : List ℕ) → NodeOf next name word → NodeOf (next + 1) name' word
         entered_by word its = record { node = its.node; known = omega (arith, its.known); named = old_name its.node its.known ∙ its.named }
 
-        no_record_lem : (k : ℕ) → word_of t' (place' next) ≡ Record k → ⊥
+        no_record_lem : (k : ℕ) → word_of t' (place' next) ≡ Ok (Some k) → ⊥
         no_record_lem k e =
-            let at_new : word_of t' (place' next) ≡ NoWord = ap (word_of t') new_place ∙ grown.word_new b.head.records in
+            let at_new : word_of t' (place' next) ≡ Ok None = ap (word_of t') new_place ∙ grown.word_new b.head.records in
             let z : ◌≡◌ {A = ℕ} 0 1 = cc in omega arith
 
-        old_record : (n k : ℕ) → n < next → word_of t' (place' n) ≡ Record k → word_of t (place n) ≡ Record k
+        old_record : (n k : ℕ) → n < next → word_of t' (place' n) ≡ Ok (Some k) → word_of t (place n) ≡ Ok (Some k)
         old_record n k h e = sym (grown.word_kept b.head.records n h) ∙ ap (word_of t') (sym (old_place n h)) ∙ e
 
-        own_by : (m n k : ℕ) → (m < next) ⊎ (m ≡ next) → (n < next) ⊎ (n ≡ next) → word_of t' (place' m) ≡ Record k → word_of t' (place' n) ≡ Record k → m ≡ n
+        own_by : (m n k : ℕ) → (m < next) ⊎ (m ≡ next) → (n < next) ⊎ (n ≡ next) → word_of t' (place' m) ≡ Ok (Some k) → word_of t' (place' n) ≡ Ok (Some k) → m ≡ n
         own_by m n k (inl hm) (inl hn) em en = words.own m n k hm hn (old_record m k hm em) (old_record n k hn en)
         own_by m n k (inr e) hn em en = absurd (no_record_lem k (rw e at em))
         own_by m n k (inl hm) (inr e) em en = absurd (no_record_lem k (rw e at en))

@@ -11,12 +11,11 @@ use Prim.Native.Nat.{ℕ, suc, ◌+◌, ◌*◌, ◌^◌, ◌<◌, ◌≤◌}
 use native.Mathlib.Omega.{arith}
 use lib.IntN.{ℤ}
 use lib.ListN.{length, get_or, length-set}
+use Rattle.std.specs.Prelude.{Ok, Err, Some, None}
 use Rattle.trie.specs.declared.ParentRef.{ParentRef}
 use Rattle.trie.specs.declared.ParentRef.TheVariants.{RootEntry, Slot}
 use Rattle.trie.specs.declared.Probe.TheVariants.{Empty}
-use Rattle.trie.specs.declared.Step.{Step}
-use Rattle.trie.specs.declared.Step.TheVariants.{At, Nothing, Damaged}
-use Rattle.trie.specs.Trie.{CharTrie, key_of, probe_of, empty_slot, node_at, from_root, open_step, bits_at, Reach, Reached, NoEnd, reach, new_slots, with_bits}
+use Rattle.trie.specs.Trie.{CharTrie, key_of, probe_of, empty_slot, node_at, from_root, open_step, bits_at, Reach, Reached, NoEnd, reach, new_slots, with_bits, Step, damage}
 use Rattle.trie.specs.Trie.{with_word, new_root_entry, new_slot, extend, insert}
 use Rattle.book.specs.Returns.{Book}
 use Rattle.built.specs.Ledger.{Entry}
@@ -71,7 +70,7 @@ record Stepped (b : Book) (ledger : List Entry) (t : CharTrie) (next slots : ℕ
   trie : CharTrie
   place : ParentRef
   standing : Standing b ledger trie (next + 1) slots place (c ∷ r)
-  leaf : (d : ℕ) (q : ParentRef) → d < 2 ^ 21 → open_step trie place d ≢ At q
+  leaf : (d : ℕ) (q : ParentRef) → d < 2 ^ 21 → open_step trie place d ≢ Ok (Some q)
   below : (d : ℕ) → from_root trie place d ≡ false
   slots_same : length trie.keys ≡ length t.keys
   continued : (cs : List ℕ) (number : ℤ) → extend t p (c ∷ cs) next number ≡ extend trie place cs (next + 1) number
@@ -88,7 +87,7 @@ unfolding extend
 extend_entry t p c cs node number e = rw (e, extend)
 
 extend_slot : (t : CharTrie) (p : ParentRef) (c : ℕ) (cs : List ℕ) (node : ℕ) (number : ℤ) (j key : ℕ)
-    → key_of (node_at t p) c ≡ key → from_root t p c ≡ false → empty_slot t.keys key ≡ Empty j
+    → key_of (node_at t p) c ≡ key → from_root t p c ≡ false → empty_slot t.keys key ≡ Ok j
     → extend t p (c ∷ cs) node number ≡ extend (new_slot (with_bits t p c) j key node) (Slot j) cs (node + 1) number
 unfolding extend
 extend_slot t p c cs node number j key k e f = rw (e, extend, k, f, extend, k)
@@ -119,7 +118,7 @@ module _ {b : Book} {ledger : List Entry} {t : CharTrie} {next slots : ℕ} {nam
   }
 
   -- in the root table, whose steps start at the root and need no bits
-  new_entry : open_step t (place n) c ≡ Nothing → from_root t (place n) c ≡ true → get_or t.root_children c 0 ≡ 0
+  new_entry : open_step t (place n) c ≡ Ok None → from_root t (place n) c ≡ true → get_or t.root_children c 0 ≡ 0
       → Stepped b ledger t next slots (place n) c (name n)
   unfolding bits_at from_root
   new_entry absent on free =
@@ -135,16 +134,16 @@ module _ {b : Book} {ledger : List Entry} {t : CharTrie} {next slots : ℕ} {nam
       }
 
   -- among the slots: the bits change neither the step nor its probe
-  new_slot_lem : open_step t (place n) c ≡ Nothing → from_root t (place n) c ≡ false → (j : ℕ) → probe_of t.keys (key_of n c) ≡ Empty j
+  new_slot_lem : open_step t (place n) c ≡ Ok None → from_root t (place n) c ≡ false → (j : ℕ) → probe_of t.keys (key_of n c) ≡ Ok (Empty j)
       → (slots + 1) * 8 ≤ length t.keys * 6
       → Stepped b ledger t next (slots + 1) (place n) c (name n)
   unfolding from_root
   new_slot_lem absent off j met room =
       let t' = with_bits t (place n) c in
       let m = marked in
-      let absent' : open_step t' (place n) c ≡ Nothing = m.alike.step_same (place n) c ∙ absent in
+      let absent' : open_step t' (place n) c ≡ Ok None = m.alike.step_same (place n) c ∙ absent in
       let off' : from_root t' (place n) c ≡ false = m.from_root_same (place n) c ∙ off in
-      let met' : probe_of t'.keys (key_of n c) ≡ Empty j = m.probe_same (key_of n c) ∙ met in
+      let met' : probe_of t'.keys (key_of n c) ≡ Ok (Empty j) = m.probe_same (key_of n c) ∙ met in
       let room' : (slots + 1) * 8 ≤ length t'.keys * 6 = subst (λ (k : ℕ). (slots + 1) * 8 ≤ k * 6) (sym m.slots_same) room in
       let its_key : key_of (node_at t (place n)) c ≡ key_of n c = ap (λ (k : ℕ). key_of k c) (node_of_place tables.tree n known) in
       record {
@@ -158,19 +157,19 @@ module _ {b : Book} {ledger : List Entry} {t : CharTrie} {next slots : ℕ} {nam
         continued = λ cs number. extend_slot t (place n) c cs next number j (key_of n c) its_key off (empty_first t.keys (key_of n c) j met);
       }
 
-  new_step_lem : open_step t (place n) c ≡ Nothing → taken (from_root t (place n) c) slots * 8 ≤ length t.keys * 6
+  new_step_lem : open_step t (place n) c ≡ Ok None → taken (from_root t (place n) c) slots * 8 ≤ length t.keys * 6
       → Stepped b ledger t next (taken (from_root t (place n) c) slots) (place n) c (name n)
   new_step_lem absent room = go (stops_of t (place n) c absent)
     where
       go : Stops t (place n) c → Stepped b ledger t next (taken (from_root t (place n) c) slots) (place n) c (name n)
       go (no_root on free) = rw on (new_entry absent on free)
       go (no_slot j off met) =
-          let its_probe : probe_of t.keys (key_of n c) ≡ Empty j =
-          subst (λ (k : ℕ). probe_of t.keys (key_of k c) ≡ Empty j) (node_of_place tables.tree n known) met in
+          let its_probe : probe_of t.keys (key_of n c) ≡ Ok (Empty j) =
+          subst (λ (k : ℕ). probe_of t.keys (key_of k c) ≡ Ok (Empty j)) (node_of_place tables.tree n known) met in
           rw off (new_slot_lem absent off j its_probe (rw off at room))
 
   -- a step that is there
-  old_step : (q : ParentRef) → open_step t (place n) c ≡ At q → Standing b ledger (with_bits t (place n) c) next slots q (c ∷ name n)
+  old_step : (q : ParentRef) → open_step t (place n) c ≡ Ok (Some q) → Standing b ledger (with_bits t (place n) c) next slots q (c ∷ name n)
   old_step q there =
       let led = tables.tree.led n c q known within there in
       record { name = name; place = place; tables = marked_tables; node = led.node; known = led.known; placed = sym led.placed; named = led.named }
@@ -183,7 +182,7 @@ module _ {b : Book} {ledger : List Entry} {t : CharTrie} {next slots : ℕ} {p :
   bits_at_lem = subst (λ (q : ParentRef). BitsSet t (with_bits t q c) q c) s.placed (marked s.tables s.node c s.known within)
 
   abbrev NewStep : ParentRef → List ℕ → Type 0
-  NewStep q m = open_step t q c ≡ Nothing → taken (from_root t q c) slots * 8 ≤ length t.keys * 6
+  NewStep q m = open_step t q c ≡ Ok None → taken (from_root t q c) slots * 8 ≤ length t.keys * 6
       → Stepped b ledger t next (taken (from_root t q c) slots) q c m
 
   new_from : NewStep p r
@@ -191,7 +190,7 @@ module _ {b : Book} {ledger : List Entry} {t : CharTrie} {next slots : ℕ} {p :
       (subst (NewStep (s.place s.node)) s.named (new_step_lem s.tables s.node c s.known within))
 
   abbrev OldStep : ParentRef → List ℕ → Type 0
-  OldStep q m = (x : ParentRef) → open_step t q c ≡ At x → Standing b ledger (with_bits t q c) next slots x (c ∷ m)
+  OldStep q m = (x : ParentRef) → open_step t q c ≡ Ok (Some x) → Standing b ledger (with_bits t q c) next slots x (c ∷ m)
 
   old_from : OldStep p r
   old_from = subst (λ (q : ParentRef). OldStep q r) s.placed
@@ -200,10 +199,10 @@ module _ {b : Book} {ledger : List Entry} {t : CharTrie} {next slots : ℕ} {p :
 -- ---- every step new
 
 -- a step that leads nowhere and is no damage is absent
-absent_by : (s : Step) → ((q : ParentRef) → s ≢ At q) → s ≢ Damaged → s ≡ Nothing
-absent_by (At q) n d = absurd (n q refl)
-absent_by Nothing n d = refl
-absent_by Damaged n d = absurd (d refl)
+absent_by : (s : Step) → ((q : ParentRef) → s ≢ Ok (Some q)) → s ≢ Err damage → s ≡ Ok None
+absent_by (Ok (Some q)) n d = absurd (n q refl)
+absent_by (Ok None) n d = refl
+absent_by (Err e) n d = absurd (d refl)
 
 -- more steps after a first one
 laid_on : {b : Book} {ledger : List Entry} {t : CharTrie} {next slots slots' : ℕ} {p : ParentRef} {c : ℕ} {r : List ℕ}
@@ -213,13 +212,13 @@ laid_on : {b : Book} {ledger : List Entry} {t : CharTrie} {next slots slots' : �
 laid_on s cs l count = relaid l (omega arith) count (s.continued cs)
 
 extend_leaf : {b : Book} {ledger : List Entry} (cs : List ℕ) {t : CharTrie} {next slots : ℕ} {p : ParentRef} {r : List ℕ} → Standing b ledger t next slots p r
-    → ((d : ℕ) (q : ParentRef) → d < 2 ^ 21 → open_step t p d ≢ At q) → ((d : ℕ) → from_root t p d ≡ false) → Characters cs
+    → ((d : ℕ) (q : ParentRef) → d < 2 ^ 21 → open_step t p d ≢ Ok (Some q)) → ((d : ℕ) → from_root t p d ≡ false) → Characters cs
     → (slots + length cs) * 8 ≤ length t.keys * 6
     → Laid b ledger (next + length cs) (slots + length cs) (reverse_aux cs r) (extend t p cs next)
 unfolding extend
 extend_leaf [] s leaf below w room = laid_nothing s
 extend_leaf {b} {ledger} (c ∷ cs) {t} {next} {slots} {p} {r} s leaf below w room =
-    let absent : open_step t p c ≡ Nothing = absent_by _ (λ q. leaf c q w.0) (undamaged_step s.tables.sizes s.tables.store p c) in
+    let absent : open_step t p c ≡ Ok None = absent_by _ (λ q. leaf c q w.0) (undamaged_step s.tables.sizes s.tables.store p c) in
     let one : taken (from_root t p c) slots ≡ slots + 1 = rw (below c) in
     let stepped : Stepped b ledger t next (slots + 1) p c r =
     subst (λ (k : ℕ). Stepped b ledger t next k p c r) one (new_from s c w.0 absent (rw one (omega arith))) in
@@ -229,7 +228,7 @@ extend_leaf {b} {ledger} (c ∷ cs) {t} {next} {slots} {p} {r} s leaf below w ro
 -- from the first absent step on
 extend_absent : {b : Book} {ledger : List Entry} (c : ℕ) (cs : List ℕ) {t : CharTrie} {next slots : ℕ} {p : ParentRef} {r : List ℕ}
     → Standing b ledger t next slots p r
-    → open_step t p c ≡ Nothing → Characters (c ∷ cs) → (taken (from_root t p c) slots + length cs) * 8 ≤ length t.keys * 6
+    → open_step t p c ≡ Ok None → Characters (c ∷ cs) → (taken (from_root t p c) slots + length cs) * 8 ≤ length t.keys * 6
     → Laid b ledger (next + suc (length cs)) (taken (from_root t p c) slots + length cs) (reverse_aux cs (c ∷ r)) (extend t p (c ∷ cs) next)
 extend_absent c cs s absent w room =
     let stepped = new_from s c w.0 absent (omega arith) in
@@ -240,18 +239,18 @@ extend_absent c cs s absent w room =
 
 -- how far a word's steps are there, by its first step
 abbrev reach_by : CharTrie → ParentRef → ℕ → List ℕ → Step → Reach
-reach_by t p c cs (At q) = reach t q cs
-reach_by t p c cs Nothing = Reached p (c ∷ cs)
-reach_by t p c cs Damaged = NoEnd
+reach_by t p c cs (Ok (Some q)) = reach t q cs
+reach_by t p c cs (Ok None) = Reached p (c ∷ cs)
+reach_by t p c cs (Err d) = NoEnd
 
 reach_step : (t : CharTrie) (p : ParentRef) (c : ℕ) (cs : List ℕ) → reach t p (c ∷ cs) ≡ reach_by t p c cs (open_step t p c)
 unfolding reach
 reach_step t p c cs = go (open_step t p c)
   where
-    go : (s : Step) → ◌≡◌ {A = Reach} (elim s [ At q ↦ reach t q cs | Nothing ↦ Reached p (c ∷ cs) | Damaged ↦ NoEnd ]) (reach_by t p c cs s)
-    go (At q) = refl
-    go Nothing = refl
-    go Damaged = refl
+    go : (s : Step) → ◌≡◌ {A = Reach} (elim s [ Ok (Some q) ↦ reach t q cs | Ok None ↦ Reached p (c ∷ cs) | Err d ↦ NoEnd ]) (reach_by t p c cs s)
+    go (Ok (Some q)) = refl
+    go (Ok None) = refl
+    go (Err d) = refl
 
 -- bits change neither how far a word's steps are there nor what the rest of it takes
 module _ {t t' : CharTrie} {p : ParentRef} {c : ℕ} (m : BitsSet t t' p c) where
@@ -262,9 +261,9 @@ module _ {t t' : CharTrie} {p : ParentRef} {c : ℕ} (m : BitsSet t t' p c) wher
       ∙ sym (reach_step t q d ds)
     where
       go : (s : Step) → ((q : ParentRef) → reach t' q ds ≡ reach t q ds) → reach_by t' q d ds s ≡ reach_by t q d ds s
-      go (At x) rest = rest x
-      go Nothing rest = refl
-      go Damaged rest = refl
+      go (Ok (Some x)) rest = rest x
+      go (Ok None) rest = refl
+      go (Err d) rest = refl
 
   bits_slots : (q : ParentRef) (rest : List ℕ) → new_slots t' q rest ≡ new_slots t q rest
   unfolding new_slots
@@ -289,7 +288,7 @@ module _ (b : Book) (ledger : List Entry) (next slots : ℕ) where
   Room t q rest = (slots + new_slots t q rest) * 8 ≤ length t.keys * 6
 
   insert_absent : (c : ℕ) (cs : List ℕ) {t : CharTrie} {p : ParentRef} {r : List ℕ} → Standing b ledger t next slots p r → Characters (c ∷ cs)
-      → open_step t p c ≡ Nothing
+      → open_step t p c ≡ Ok None
       → Room t p (c ∷ cs) → LaidFrom t p r (c ∷ cs) p (c ∷ cs)
   unfolding insert
   insert_absent c cs {t} {p} s w absent room =
@@ -302,17 +301,17 @@ module _ (b : Book) (ledger : List Entry) (next slots : ℕ) where
       → LaidFrom (with_bits t p c) x (c ∷ r) cs q rest)
       → (s : Step) → open_step t p c ≡ s → reach_by t p c cs s ≡ Reached q rest → LaidFrom t p r (c ∷ cs) q rest
   unfolding insert
-  insert_step c cs {t} {p} s w q rest room others (At x) there far =
+  insert_step c cs {t} {p} s w q rest room others (Ok (Some x)) there far =
       let m = bits_at_lem s c w.0 in
       let same = bits_slots m q rest in
       let long = m.slots_same in
       relaid (others x (old_from s c w.0 x there) (bits_reach m cs x ∙ far) (omega arith)) refl (omega arith) (λ number. rw (there, insert))
-  insert_step c cs {t} {p} {r} s w q rest room others Nothing absent far =
+  insert_step c cs {t} {p} {r} s w q rest room others (Ok None) absent far =
       let place : p ≡ q = cc in
       let left : c ∷ cs ≡ rest = cc in
       subst (λ (y : ParentRef). Room t y rest → LaidFrom t p r (c ∷ cs) y rest) place
       (subst (λ (ds : List ℕ). Room t p ds → LaidFrom t p r (c ∷ cs) p ds) left (insert_absent c cs s w absent)) room
-  insert_step c cs {t} {p} s w q rest room others Damaged e far = absurd (undamaged_step s.tables.sizes s.tables.store p c e)
+  insert_step c cs {t} {p} s w q rest room others (Err d) e far = absurd (undamaged_step s.tables.sizes s.tables.store p c e)
 
   pub insert_lays : (cs : List ℕ) {t : CharTrie} {p : ParentRef} {r : List ℕ} → Standing b ledger t next slots p r → Characters cs
       → (q : ParentRef) (rest : List ℕ)

@@ -15,8 +15,9 @@ use lib.Dec.{eqb, leb}
 use lib.ListN.{length, get_or, set, length-set, replicate}
 use lib.Pow.{pow_pos, pow_mono, shr_lt}
 use lib.Seq.{get_or-set_same, get_or-set_other}
-use Rattle.trie.specs.declared.Probe.TheVariants.{Found, Empty, Endless}
-use Rattle.trie.specs.Trie.{log2, start_slot, probe_of, empty_slot}
+use Rattle.std.specs.Prelude.{Ok, Err}
+use Rattle.trie.specs.declared.Probe.TheVariants.{Found, Empty}
+use Rattle.trie.specs.Trie.{log2, start_slot, probe_of, empty_slot, damage}
 use Rattle.trie.specs.SlotCounts.{most_slots, slot_count}
 use Rattle.book.specs.Enter.{empty_slots}
 use Rattle.built.proofs.Probes.{Inside, inside, found_key, empty_key, first_empty, not_endless, found_kept, stored_found, seen, probe_same}
@@ -121,26 +122,26 @@ all_empty (suc n) = ap suc (all_empty n)
 
 -- each key in use is found by its own probe
 abbrev pub Findable : List ℕ → Type 0
-Findable keys = (i : ℕ) → i < length keys → get_or keys i 0 ≢ 0 → probe_of keys (get_or keys i 0 % 2 ^ 48) ≡ Found i
+Findable keys = (i : ℕ) → i < length keys → get_or keys i 0 ≢ 0 → probe_of keys (get_or keys i 0 % 2 ^ 48) ≡ Ok (Found i)
 
 -- every start is a slot
 abbrev pub Started : List ℕ → Type 0
 Started keys = (key : ℕ) → start_slot (length keys) key < length keys
 
 module _ (keys : List ℕ) (key : ℕ) where
-  pub found_low : (i : ℕ) → probe_of keys key ≡ Found i → get_or keys i 0 % 2 ^ 48 ≡ key
+  pub found_low : (i : ℕ) → probe_of keys key ≡ Ok (Found i) → get_or keys i 0 % 2 ^ 48 ≡ key
   unfolding probe_of
   found_low i p = found_key keys key (length keys) _ i p
 
-  pub found_used : key ≢ 0 → (i : ℕ) → probe_of keys key ≡ Found i → get_or keys i 0 ≢ 0
+  pub found_used : key ≢ 0 → (i : ℕ) → probe_of keys key ≡ Ok (Found i) → get_or keys i 0 ≢ 0
   found_used some i p z = some (sym (found_low i p) ∙ ap (λ (k : ℕ). k % 2 ^ 48) z)
 
-  pub empty_zero : (j : ℕ) → probe_of keys key ≡ Empty j → get_or keys j 0 ≡ 0
+  pub empty_zero : (j : ℕ) → probe_of keys key ≡ Ok (Empty j) → get_or keys j 0 ≡ 0
   unfolding probe_of
   empty_zero j p = empty_key keys key (length keys) _ j p
 
   -- the slot that a new key takes
-  pub empty_first : (j : ℕ) → probe_of keys key ≡ Empty j → empty_slot keys key ≡ Empty j
+  pub empty_first : (j : ℕ) → probe_of keys key ≡ Ok (Empty j) → empty_slot keys key ≡ Ok j
   unfolding probe_of empty_slot
   empty_first j p = first_empty keys key (length keys) _ j p
 
@@ -149,20 +150,20 @@ module _ (keys : List ℕ) (key : ℕ) where
     unfolding probe_of
     probe_inside = inside keys key (length keys) _ (started key)
 
-    pub found_inside : (i : ℕ) → probe_of keys key ≡ Found i → i < length keys
+    pub found_inside : (i : ℕ) → probe_of keys key ≡ Ok (Found i) → i < length keys
     found_inside i p = subst (Inside (length keys)) p probe_inside
 
-    pub empty_inside : (j : ℕ) → probe_of keys key ≡ Empty j → j < length keys
+    pub empty_inside : (j : ℕ) → probe_of keys key ≡ Ok (Empty j) → j < length keys
     empty_inside j p = subst (Inside (length keys)) p probe_inside
 
-    pub probe_ends : 0 < empty_slots keys → probe_of keys key ≢ Endless
+    pub probe_ends : 0 < empty_slots keys → probe_of keys key ≢ Err damage
     unfolding probe_of
     probe_ends h p = let e = some_empty keys h in not_endless keys key _ e.0 (started key) e.1 e.2 p
 
 -- ---- a key stored to the empty slot where its probe ended
 
 module _ (keys : List ℕ) (key j : ℕ) (started : Started keys) (findable : Findable keys) (low : key % 2 ^ 48 ≡ key) (some : key ≢ 0)
-    (met : probe_of keys key ≡ Empty j) where
+    (met : probe_of keys key ≡ Ok (Empty j)) where
   free : get_or keys j 0 ≡ 0
   free = empty_zero keys key j met
 
@@ -178,16 +179,16 @@ module _ (keys : List ℕ) (key j : ℕ) (started : Started keys) (findable : Fi
   started_kept : Started (set keys j key)
   started_kept k = rw (length-set keys j key) (started k)
 
-  pub probe_kept : (k i : ℕ) → k ≢ 0 → probe_of keys k ≡ Found i → probe_of (set keys j key) k ≡ Found i
+  pub probe_kept : (k i : ℕ) → k ≢ 0 → probe_of keys k ≡ Ok (Found i) → probe_of (set keys j key) k ≡ Ok (Found i)
   unfolding probe_of
   probe_kept k i nz p = rw (length-set keys j key) (found_kept keys j key free k nz (length keys) _ i p)
 
-  pub probe_new : probe_of (set keys j key) key ≡ Found j
+  pub probe_new : probe_of (set keys j key) key ≡ Ok (Found j)
   unfolding probe_of
   probe_new = rw (length-set keys j key) (stored_found keys j key free key low free_inside (length keys) _ met)
 
   -- any other key that is found now was found before
-  pub probe_before : (k i : ℕ) → k ≢ 0 → k ≢ key → probe_of (set keys j key) k ≡ Found i → probe_of keys k ≡ Found i
+  pub probe_before : (k i : ℕ) → k ≢ 0 → k ≢ key → probe_of (set keys j key) k ≡ Ok (Found i) → probe_of keys k ≡ Ok (Found i)
   probe_before k i nz ne p =
       let its : get_or (set keys j key) i 0 % 2 ^ 48 ≡ k = found_low (set keys j key) k i p in
       let apart : i ≢ j = λ q. ne (sym its ∙ ap (λ (m : ℕ). get_or (set keys j key) m 0 % 2 ^ 48) q ∙ ap (λ (m : ℕ). m % 2 ^ 48) key_stored ∙ low) in
@@ -200,7 +201,7 @@ module _ (keys : List ℕ) (key j : ℕ) (started : Started keys) (findable : Fi
   pub findable_kept : ((i : ℕ) → i < length keys → get_or keys i 0 ≢ 0 → 1 ≤ get_or keys i 0 % 2 ^ 48) → Findable (set keys j key)
   findable_kept least i h used = go _ refl
     where
-      go : (t : Bool) → eqb i j ≡ t → probe_of (set keys j key) (get_or (set keys j key) i 0 % 2 ^ 48) ≡ Found i
+      go : (t : Bool) → eqb i j ≡ t → probe_of (set keys j key) (get_or (set keys j key) i 0 % 2 ^ 48) ≡ Ok (Found i)
       go true t = rw (eqb-true i j t, key_stored, low) probe_new
       go false t =
           let old : get_or (set keys j key) i 0 ≡ get_or keys i 0 = key_elsewhere i (eqb-false i j t) in

@@ -12,8 +12,8 @@ use Rattle.classes.specs.WhiteSpace.{white_space}
 use Rattle.utf8.specs.Encoding.{Scalar, Scalars}
 use Rattle.utf8.specs.Text.{chars_of}
 use Rattle.utf8.proofs.Texts.{texts_only_of_encodings}
-use Rattle.lines.specs.declared.Frequency.{Frequency}
-use Rattle.lines.specs.declared.Frequency.TheVariants.{Value}
+use Rattle.std.specs.Prelude.{Result, Ok, Err}
+use Rattle.lines.specs.declared.BadFrequency.{BadFrequency}
 use Rattle.lines.specs.Lines.{onto, pieces, non_empty, fields_of, frequency_of, entry, with_frequency, meaning_of_fields, meaning_of_chars, meaning_of}
 use Rattle.built.proofs.Steps.{Characters}
 
@@ -70,9 +70,9 @@ first_word [] each word frequency e = let z : ◌≡◌ {A = ℕ} 0 1 = cc in ab
 first_word (w ∷ []) each word frequency e = let same : w ≡ word = cc in subst (λ (v : List ℕ). (v ≢ []) × Characters v) same (each.0, each.1)
 first_word (w ∷ f ∷ fs) each word frequency e = go (frequency_of f) e
   where
-    go : (n : Frequency) → with_frequency w n ≡ entry word frequency → (word ≢ []) × Characters word
-    go Frequency.Malformed e = let z : ◌≡◌ {A = ℕ} 0 1 = cc in absurd (omega arith)
-    go (Value n) e = let same : w ≡ word = cc in subst (λ (v : List ℕ). (v ≢ []) × Characters v) same (each.0, each.1)
+    go : (n : Result ℕ BadFrequency) → with_frequency w n ≡ entry word frequency → (word ≢ []) × Characters word
+    go (Err y) e = let z : ◌≡◌ {A = ℕ} 0 1 = cc in absurd (omega arith)
+    go (Ok n) e = let same : w ≡ word = cc in subst (λ (v : List ℕ). (v ≢ []) × Characters v) same (each.0, each.1)
 
 pub line_word : (line word : List ℕ) (frequency : ℕ) → meaning_of line ≡ entry word frequency → (word ≢ []) × Characters word
 unfolding meaning_of

@@ -10,15 +10,10 @@ use mathlib.Core.List.{List, [], ◌∷◌, reverse, reverse_aux, reverse-cons, 
 use mathlib.Core.Option.{none}
 use Prim.Native.Nat.{ℕ, ◌+◌, ◌^◌, ◌<◌}
 use native.Mathlib.Omega.{arith}
-use Rattle.trie.specs.declared.Got.{Got}
-use Rattle.trie.specs.declared.Got.TheVariants.{Held, Absent}
+use Rattle.std.specs.Prelude.{Ok, Err, Some, None}
 use Rattle.trie.specs.declared.ParentRef.{ParentRef}
 use Rattle.trie.specs.declared.ParentRef.TheVariants.{Root}
-use Rattle.trie.specs.declared.Step.{Step}
-use Rattle.trie.specs.declared.Step.TheVariants.{At, Nothing, Damaged}
-use Rattle.trie.specs.declared.WordNumber.{WordNumber}
-use Rattle.trie.specs.declared.WordNumber.TheVariants.{Record}
-use Rattle.trie.specs.Trie.{CharTrie, open_step, bits_at, tested_step, walk, word_at, got_by_word, get_of}
+use Rattle.trie.specs.Trie.{CharTrie, open_step, bits_at, tested_step, walk, word_at, get_of, Step, WordNumber, damage}
 use Rattle.book.specs.Returns.{Book}
 use Rattle.book.specs.Prefixes.{Edge, Walked, ended, broken, met_before, walk_on, words_from}
 use Rattle.built.specs.Ledger.{Entry, frequency_in, edge_before, words_after, ledger_words}
@@ -38,7 +33,7 @@ module _ {b : Book} {ledger : List Entry} {t : CharTrie} {next slots : ℕ} {nam
   pub root_known : 0 < next
   root_known = next_some tables.sizes tables.store
 
-  undamaged : (p : ParentRef) (c : ℕ) → open_step t p c ≢ Damaged
+  undamaged : (p : ParentRef) (c : ℕ) → open_step t p c ≢ Err damage
   undamaged = undamaged_step tables.sizes tables.store
 
   -- ---- one step
@@ -48,11 +43,11 @@ module _ {b : Book} {ledger : List Entry} {t : CharTrie} {next slots : ℕ} {nam
   tested n c h l = go (open_step t (place n) c) refl (bits_at t (place n) c) refl
     where
       go : (s : Step) → open_step t (place n) c ≡ s → (bits : Bool) → bits_at t (place n) c ≡ bits
-          → ◌≡◌ {A = Step} (elim (bits_at t (place n) c) [ true ↦ open_step t (place n) c | false ↦ Nothing ]) (open_step t (place n) c)
+          → ◌≡◌ {A = Step} (elim (bits_at t (place n) c) [ true ↦ open_step t (place n) c | false ↦ Ok None ]) (open_step t (place n) c)
       go s e true eb = rw eb
-      go (At q) e false eb = let its = (tree.led n c q h l e).bits in let z : ◌≡◌ {A = ℕ} 0 1 = cc in absurd (omega arith)
-      go Nothing e false eb = rw eb (sym e)
-      go Damaged e false eb = absurd (undamaged (place n) c e)
+      go (Ok (Some q)) e false eb = let its = (tree.led n c q h l e).bits in let z : ◌≡◌ {A = ℕ} 0 1 = cc in absurd (omega arith)
+      go (Ok None) e false eb = rw eb (sym e)
+      go (Err d) e false eb = absurd (undamaged (place n) c e)
 
   -- where no node has a name, none has one that goes on from it
   nameless_on : (cs r : List ℕ) → ((m : ℕ) → m < next → name m ≢ r) → (m : ℕ) → m < next → name m ≢ reverse_aux cs r
@@ -63,8 +58,8 @@ module _ {b : Book} {ledger : List Entry} {t : CharTrie} {next slots : ℕ} {nam
 
   -- a walk along a name arrives at its node, or there is none
   data Walks (r : List ℕ) : Step → Type 0 where
-    arrives : {m : ℕ} → m < next → name m ≡ r → Walks r (At (place m))
-    stops : ((m : ℕ) → m < next → name m ≢ r) → Walks r Nothing
+    arrives : {m : ℕ} → m < next → name m ≡ r → Walks r (Ok (Some (place m)))
+    stops : ((m : ℕ) → m < next → name m ≢ r) → Walks r (Ok None)
 
   walks : (cs : List ℕ) (n : ℕ) → n < next → Characters cs → Walks (reverse_aux cs (name n)) (walk t (place n) cs)
   unfolding walk
@@ -72,12 +67,12 @@ module _ {b : Book} {ledger : List Entry} {t : CharTrie} {next slots : ℕ} {nam
   walks (c ∷ cs) n h w = rw (tested n c h w.0, walk) (go (open_step t (place n) c) refl (λ m hm. walks cs m hm w.1))
     where
       go : (s : Step) → open_step t (place n) c ≡ s → ((m : ℕ) → m < next → Walks (reverse_aux cs (name m)) (walk t (place m) cs))
-          → Walks (reverse_aux cs (c ∷ name n)) (elim s [ At q ↦ walk t q cs | Nothing ↦ Nothing | Damaged ↦ Damaged ])
-      go (At q) e rest =
+          → Walks (reverse_aux cs (c ∷ name n)) (elim s [ Ok (Some q) ↦ walk t q cs | Ok None ↦ Ok None | Err d ↦ Err d ])
+      go (Ok (Some q)) e rest =
           let led = tree.led n c q h w.0 e in
           rw (led.placed, ← led.named) (rest led.node led.known)
-      go Nothing e rest = stops (nameless_on cs (c ∷ name n) (nameless tree n c h e))
-      go Damaged e rest = absurd (undamaged (place n) c e)
+      go (Ok None) e rest = stops (nameless_on cs (c ∷ name n) (nameless tree n c h e))
+      go (Err d) e rest = absurd (undamaged (place n) c e)
 
   from_root_lem : (word : List ℕ) → Characters word → Walks (reverse word) (walk t Root word)
   from_root_lem word w =
@@ -87,27 +82,27 @@ module _ {b : Book} {ledger : List Entry} {t : CharTrie} {next slots : ℕ} {nam
   -- ---- a lookup
 
   -- a word that is found has a node with its record, and a word that is not found is not in the ledger
-  pub data Located (word : List ℕ) : Got → Type 0 where
-    at_node : {m n : ℕ} → m < next → name m ≡ reverse word → word_at b.head.records t (place m) ≡ Record n → Located word (Held n)
-    nowhere : frequency_in ledger word ≡ none → Located word Absent
+  pub data Located (word : List ℕ) : WordNumber → Type 0 where
+    at_node : {m n : ℕ} → m < next → name m ≡ reverse word → word_at b.head.records t (place m) ≡ Ok (Some n) → Located word (Ok (Some n))
+    nowhere : frequency_in ledger word ≡ none → Located word (Ok None)
 
   pub located : (word : List ℕ) → Characters word → Located word (get_of b.head.records t word)
   unfolding get_of
   located word w = go (walk t Root word) (from_root_lem word w)
     where
       by_number : (m : ℕ) → m < next → name m ≡ reverse word → (number : WordNumber) → word_at b.head.records t (place m) ≡ number
-          → Agrees b ledger (reverse (name m)) number → Located word (got_by_word number)
+          → Agrees b ledger (reverse (name m)) number → Located word number
       by_number m h e number en (not_entered f) = nowhere (sym (ap (frequency_in ledger) (ap reverse e ∙ reverse-reverse word)) ∙ f)
       by_number m h e number en (in_record k f l) = at_node h e en
 
       go : (s : Step) → Walks (reverse word) s → Located word
-          (elim s [ At p ↦ got_by_word (word_at b.head.records t p) | Nothing ↦ Absent | Damaged ↦ Got.Damaged ])
+          (elim s [ Ok (Some p) ↦ word_at b.head.records t p | Ok None ↦ Ok None | Err d ↦ Err d ])
       go s (arrives {m} h e) = by_number m h e (word_at b.head.records t (place m)) refl (tables.words.agrees m h)
       go s (stops n) = nowhere (sym (ap (frequency_in ledger) (reverse-reverse word)) ∙ not_in_ledger tables.words (reverse word) n)
 
   -- so it is held as the ledger has it
-  pub record_agrees : (word : List ℕ) (m n : ℕ) → m < next → name m ≡ reverse word → word_at b.head.records t (place m) ≡ Record n
-      → Agrees b ledger word (Record n)
+  pub record_agrees : (word : List ℕ) (m n : ℕ) → m < next → name m ≡ reverse word → word_at b.head.records t (place m) ≡ Ok (Some n)
+      → Agrees b ledger word (Ok (Some n))
   record_agrees word m n h e en =
       subst (Agrees b ledger word) en
       (subst (λ (v : List ℕ). Agrees b ledger v (word_at b.head.records t (place m))) (ap reverse e ∙ reverse-reverse word) (tables.words.agrees m h))
@@ -115,19 +110,19 @@ module _ {b : Book} {ledger : List Entry} {t : CharTrie} {next slots : ℕ} {nam
   pub got : (word : List ℕ) → Characters word → HeldAs b (frequency_in ledger word) (get_of b.head.records t word)
   got word w = go (get_of b.head.records t word) (located word w)
     where
-      by_record : (n : ℕ) → Agrees b ledger word (Record n) → HeldAs b (frequency_in ledger word) (Held n)
+      by_record : (n : ℕ) → Agrees b ledger word (Ok (Some n)) → HeldAs b (frequency_in ledger word) (Ok (Some n))
       by_record n (in_record h e l) = rw e (held h refl l)
 
-      go : (g : Got) → Located word g → HeldAs b (frequency_in ledger word) g
+      go : (g : WordNumber) → Located word g → HeldAs b (frequency_in ledger word) g
       go g (at_node {m} {n} h e en) = by_record n (record_agrees word m n h e en)
       go g (nowhere e) = rw e absent
 
   -- ---- the bits hide nothing
 
-  pub hidden_nowhere : (word : List ℕ) (p : ParentRef) (c : ℕ) → Characters word → c < 2 ^ 21 → walk t Root word ≡ At p → tested_step t p c ≡ open_step t p c
+  pub hidden_nowhere : (word : List ℕ) (p : ParentRef) (c : ℕ) → Characters word → c < 2 ^ 21 → walk t Root word ≡ Ok (Some p) → tested_step t p c ≡ open_step t p c
   hidden_nowhere word p c w l e = go (walk t Root word) (from_root_lem word w) e
     where
-      go : (s : Step) → Walks (reverse word) s → s ≡ At p → tested_step t p c ≡ open_step t p c
+      go : (s : Step) → Walks (reverse word) s → s ≡ Ok (Some p) → tested_step t p c ≡ open_step t p c
       go s (arrives {m} h en) q = let same : place m ≡ p = cc in rw (← same) (tested m c h l)
       go s (stops n) q = let z : ◌≡◌ {A = ℕ} 0 1 = cc in absurd (omega arith)
 
@@ -157,22 +152,22 @@ module _ {b : Book} {ledger : List Entry} {next slots : ℕ} {name : ℕ → Lis
       go : (s : Step) → open_step b.trie (place n) c ≡ s
           → ((m : ℕ) → m < next → walk_on b (place m) (at + 1) cs ≡ met (words_after ledger (reverse (name m)) (at + 1) cs))
           → ◌≡◌ {A = Walked} (elim s [
-            | At q ↦ met_before b (word_at b.head.records b.trie q) (at + 1) (walk_on b q (at + 1) cs)
-            | Nothing ↦ ended
-            | Damaged ↦ broken
+            | Ok (Some q) ↦ met_before b (word_at b.head.records b.trie q) (at + 1) (walk_on b q (at + 1) cs)
+            | Ok None ↦ ended
+            | Err d ↦ broken
           ])
           (met (edge_before (at + 1) (frequency_in ledger (reverse (c ∷ name n))) (words_after ledger (reverse (c ∷ name n)) (at + 1) cs)))
-      go (At q) e rest =
+      go (Ok (Some q)) e rest =
           let led = tables.tree.led n c q h w.0 e in
           let after : List ℕ → Walked = λ r. met (edge_before (at + 1) (frequency_in ledger (reverse r)) (words_after ledger (reverse r) (at + 1) cs)) in
           let its_word = word_at b.head.records b.trie (place led.node) in
           let here : met_before b its_word (at + 1) (walk_on b (place led.node) (at + 1) cs) ≡ after (name led.node) =
           rw (rest led.node led.known) (met_by (at + 1) (reverse (name led.node)) its_word (tables.words.agrees led.node led.known) _) in
           rw led.placed (subst (λ (r : List ℕ). met_before b its_word (at + 1) (walk_on b (place led.node) (at + 1) cs) ≡ after r) led.named here)
-      go Nothing e rest =
+      go (Ok None) e rest =
           let none_there = nameless tables.tree n c h e in
           rw (not_in_ledger tables.words (c ∷ name n) none_there, no_words tables cs (c ∷ name n) (at + 1) none_there)
-      go Damaged e rest = absurd (undamaged tables (place n) c e)
+      go (Err d) e rest = absurd (undamaged tables (place n) c e)
 
   pub walked_from_root : (at : ℕ) (cs : List ℕ) → Characters cs → words_from b at cs ≡ met (ledger_words ledger at cs)
   unfolding words_from ledger_words

@@ -15,11 +15,10 @@ use lib.Ieee.{nan}
 use lib.IntN.{ℤ, pos, negsuc}
 use lib.ListN.{length, get_or, length-set}
 use lib.Seq.{get_or-set_same, get_or-set_other}
+use Rattle.std.specs.Prelude.{Ok, Err, Some}
 use Rattle.trie.specs.declared.ParentRef.{ParentRef}
 use Rattle.trie.specs.declared.ParentRef.TheVariants.{Root, RootEntry, Slot}
-use Rattle.trie.specs.declared.WordNumber.{WordNumber}
-use Rattle.trie.specs.declared.WordNumber.TheVariants.{Record, Bad}
-use Rattle.trie.specs.Trie.{CharTrie, no_word, word_number, probe_of, node_at, from_root, bits_at, word_at, with_word, insert}
+use Rattle.trie.specs.Trie.{CharTrie, no_word, word_number, probe_of, node_at, from_root, bits_at, word_at, with_word, insert, WordNumber, damage}
 use Rattle.score.specs.Logarithm.{log_float}
 use Rattle.book.specs.Returns.{Book, cell_frequency, greatest_total}
 use Rattle.book.specs.Enter.{new_cell, inserted}
@@ -127,23 +126,23 @@ module _ (t : CharTrie) (number : ℤ) where
   number_elsewhere used (Slot j) (Slot i) ne = ap (word_number used) (get_or-set_other t.words j i number no_word (λ e. ne (ap Slot e)))
 
 -- a number that was right with fewer records is right with one more, and the next record is now one
-more_records : (used : ℕ) (z : ℤ) → word_number used z ≢ Bad → word_number (used + 1) z ≡ word_number used z
+more_records : (used : ℕ) (z : ℤ) → word_number used z ≢ Err damage → word_number (used + 1) z ≡ word_number used z
 unfolding word_number
 more_records used (pos n) good = go (ltb n used) refl good
   where
-    go : (t : Bool) → ltb n used ≡ t → cond t (Record n) Bad ≢ Bad → cond (ltb n (used + 1)) (Record n) Bad ≡ cond t (Record n) Bad
+    go : (t : Bool) → ltb n used ≡ t → cond t (Ok (Some n)) (Err damage) ≢ Err damage → cond (ltb n (used + 1)) (Ok (Some n)) (Err damage) ≡ cond t (Ok (Some n)) (Err damage)
     go true t good = let below : n < used = ltb-true n used t in rw (lt-ltb n (used + 1) (omega arith))
     go false t good = absurd (good refl)
 more_records used (negsuc zero) good = refl
 more_records used (negsuc (suc n)) good = absurd (good refl)
 
-more_records_at : (used : ℕ) (t : CharTrie) (p : ParentRef) → word_at used t p ≢ Bad → word_at (used + 1) t p ≡ word_at used t p
+more_records_at : (used : ℕ) (t : CharTrie) (p : ParentRef) → word_at used t p ≢ Err damage → word_at (used + 1) t p ≡ word_at used t p
 unfolding word_at
 more_records_at used t Root good = refl
 more_records_at used t (RootEntry i) good = more_records used (get_or t.root_words i no_word) good
 more_records_at used t (Slot i) good = more_records used (get_or t.words i no_word) good
 
-next_is_record : (used : ℕ) → word_number (used + 1) (pos used) ≡ Record used
+next_is_record : (used : ℕ) → word_number (used + 1) (pos used) ≡ Ok (Some used)
 unfolding word_number
 next_is_record used = rw (lt-ltb used (used + 1) (omega arith))
 
@@ -192,7 +191,7 @@ module _ {b : Book} {ledger : List Entry} (records : Records b ledger) (word : L
     apart = λ k h ne e. next_unused _ k (s.tables.words.agrees k h) e;
   }
     where
-      next_unused : (number : WordNumber) (k : ℕ) → Agrees b ledger (reverse (s.name k)) number → number ≡ Record n → ⊥
+      next_unused : (number : WordNumber) (k : ℕ) → Agrees b ledger (reverse (s.name k)) number → number ≡ Ok (Some n) → ⊥
       next_unused number k (not_entered e) q = let z : ◌≡◌ {A = ℕ} 0 1 = cc in omega arith
       next_unused number k (in_record {n = i} h e g) q = let one : i ≡ n = cc in omega arith
 

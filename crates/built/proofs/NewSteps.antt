@@ -13,11 +13,10 @@ use borrow.Author.Tests.{eqb-true, eqb-false}
 use lib.Dec.{eqb}
 use lib.ListN.{length, get_or, set, length-set}
 use lib.Seq.{get_or-set_same, get_or-set_other}
+use Rattle.std.specs.Prelude.{Ok, Some, None}
 use Rattle.trie.specs.declared.ParentRef.{ParentRef}
 use Rattle.trie.specs.declared.ParentRef.TheVariants.{Root, RootEntry, Slot}
 use Rattle.trie.specs.declared.Probe.TheVariants.{Found, Empty}
-use Rattle.trie.specs.declared.Step.TheVariants.{At, Nothing}
-use Rattle.trie.specs.declared.WordNumber.TheVariants.{NoWord}
 use Rattle.trie.specs.Trie.{CharTrie, no_word, word_number, key_of, probe_of, node_at, from_root, open_step, bits_at, word_at, new_root_entry, new_slot}
 use Rattle.book.specs.Returns.{Book}
 use Rattle.built.specs.Ledger.{Entry}
@@ -29,7 +28,7 @@ use Rattle.built.proofs.Steps.{node_of_place, place_in_use}
 use Rattle.built.proofs.Growth.{Grown, grown_tree, grown_words}
 
 -- no slot has a parent that is still to come
-no_child_yet : {t : CharTrie} {next slots : ℕ} → Sizes t → Store t next slots → (d i : ℕ) → probe_of t.keys (key_of next d) ≢ Found i
+no_child_yet : {t : CharTrie} {next slots : ℕ} → Sizes t → Store t next slots → (d i : ℕ) → probe_of t.keys (key_of next d) ≢ Ok (Found i)
 unfolding key_of
 no_child_yet {t = t} {next = next} sizes store d i f =
     let key = key_of next d in
@@ -41,7 +40,7 @@ no_child_yet {t = t} {next = next} sizes store d i f =
 
 module _ {b : Book} {ledger : List Entry} {t : CharTrie} {next slots : ℕ} {name : ℕ → List ℕ} {place : ℕ → ParentRef}
     (tables : Tables b ledger t next slots name place)
-    (parent c : ℕ) (known : parent < next) (within : c < 2 ^ 21) (absent : open_step t (place parent) c ≡ Nothing)
+    (parent c : ℕ) (known : parent < next) (within : c < 2 ^ 21) (absent : open_step t (place parent) c ≡ Ok None)
     (bits : bits_at t (place parent) c ≡ true) where
   filled : (n : ℕ) → n < next → InUse t (place n)
   filled n h = place_in_use tables.tree tables.sizes n h
@@ -57,11 +56,11 @@ module _ {b : Book} {ledger : List Entry} {t : CharTrie} {next slots : ℕ} {nam
 
   -- a step that leads to q led there before, or is the new one
   abbrev OldOrNew : ℕ → ℕ → ParentRef → ParentRef → Type 0
-  OldOrNew n d q new = (open_step t (place n) d ≡ At q) ⊎ ((n ≡ parent) × (d ≡ c) × (q ≡ new))
+  OldOrNew n d q new = (open_step t (place n) d ≡ Ok (Some q)) ⊎ ((n ≡ parent) × (d ≡ c) × (q ≡ new))
 
   -- ---- among the slots
 
-  module _ (off : from_root t (place parent) c ≡ false) (j : ℕ) (met : probe_of t.keys (key_of parent c) ≡ Empty j) where
+  module _ (off : from_root t (place parent) c ≡ false) (j : ℕ) (met : probe_of t.keys (key_of parent c) ≡ Ok (Empty j)) where
     abbrev key : ℕ
     key = key_of parent c
 
@@ -79,13 +78,13 @@ module _ {b : Book} {ledger : List Entry} {t : CharTrie} {next slots : ℕ} {nam
     inside = free_inside t.keys key j (started tables.sizes) tables.store.found low_48 some_key met
 
     -- the probes after the store, by those before it
-    kept_key : (k i : ℕ) → k ≢ 0 → probe_of t.keys k ≡ Found i → probe_of (set t.keys j key) k ≡ Found i
+    kept_key : (k i : ℕ) → k ≢ 0 → probe_of t.keys k ≡ Ok (Found i) → probe_of (set t.keys j key) k ≡ Ok (Found i)
     kept_key = probe_kept t.keys key j (started tables.sizes) tables.store.found low_48 some_key met
 
-    new_key : probe_of (set t.keys j key) key ≡ Found j
+    new_key : probe_of (set t.keys j key) key ≡ Ok (Found j)
     new_key = probe_new t.keys key j (started tables.sizes) tables.store.found low_48 some_key met
 
-    old_key : (k i : ℕ) → k ≢ 0 → k ≢ key → probe_of (set t.keys j key) k ≡ Found i → probe_of t.keys k ≡ Found i
+    old_key : (k i : ℕ) → k ≢ 0 → k ≢ key → probe_of (set t.keys j key) k ≡ Ok (Found i) → probe_of t.keys k ≡ Ok (Found i)
     old_key = probe_before t.keys key j (started tables.sizes) tables.store.found low_48 some_key met
 
     another : (i : ℕ) → InUse t (Slot i) → i ≢ j
@@ -115,14 +114,14 @@ module _ {b : Book} {ledger : List Entry} {t : CharTrie} {next slots : ℕ} {nam
 
     -- two keys are one only where parent and character are
     slot_back_by : (n d i : ℕ) → n < next → d < 2 ^ 21 → from_root t (place n) d ≡ false
-        → probe_of (set t.keys j key) (key_of n d) ≡ Found i → (same : Bool) → eqb key (key_of n d) ≡ same
+        → probe_of (set t.keys j key) (key_of n d) ≡ Ok (Found i) → (same : Bool) → eqb key (key_of n d) ≡ same
         → OldOrNew n d (Slot i) (Slot j)
     unfolding key_of
     slot_back_by n d i h l o f true e =
         let one : key_of parent c ≡ key_of n d = eqb-true _ _ e in
         let nodes : n ≡ parent = omega arith in
         let characters : d ≡ c = omega arith in
-        let there : probe_of (set t.keys j key) (key_of parent c) ≡ Found i = ap (probe_of (set t.keys j key)) one ∙ f in
+        let there : probe_of (set t.keys j key) (key_of parent c) ≡ Ok (Found i) = ap (probe_of (set t.keys j key)) one ∙ f in
         let its = new_key in
         let slot : i ≡ j = cc in
         inr (nodes, characters, ap Slot slot)
@@ -142,7 +141,7 @@ module _ {b : Book} {ledger : List Entry} {t : CharTrie} {next slots : ℕ} {nam
     unfolding from_root key_of
     slot_childless d q l (by_root e nz) = let z : ◌≡◌ {A = ℕ} 0 1 = cc in omega arith
     slot_childless d q l (by_slot {i} e f) =
-        let there : probe_of (set t.keys j key) (key_of next d) ≡ Found i = rw slot_node_new at f in
+        let there : probe_of (set t.keys j key) (key_of next d) ≡ Ok (Found i) = rw slot_node_new at f in
         let apart : key_of next d ≢ key_of parent c = λ q. omega arith in
         no_child_yet tables.sizes tables.store d i (old_key (key_of next d) i (key_some next d) apart there)
 
@@ -161,7 +160,7 @@ module _ {b : Book} {ledger : List Entry} {t : CharTrie} {next slots : ℕ} {nam
     slot_word used (RootEntry i) u = refl
     slot_word used (Slot i) u = ap (word_number used) (get_or-set_other t.words j i no_word no_word (another i u))
 
-    slot_word_new : (used : ℕ) → word_at used with_slot (Slot j) ≡ NoWord
+    slot_word_new : (used : ℕ) → word_at used with_slot (Slot j) ≡ Ok None
     unfolding word_at word_number
     slot_word_new used = ap (word_number used) (get_or-set_same t.words j no_word no_word (rw tables.sizes.words inside))
 
@@ -237,7 +236,7 @@ module _ {b : Book} {ledger : List Entry} {t : CharTrie} {next slots : ℕ} {nam
       words = grown_words tables.tree slot_grown tables.words;
     }
 
-    pub slot_is_leaf : (d : ℕ) (q : ParentRef) → d < 2 ^ 21 → open_step with_slot (Slot j) d ≢ At q
+    pub slot_is_leaf : (d : ℕ) (q : ParentRef) → d < 2 ^ 21 → open_step with_slot (Slot j) d ≢ Ok (Some q)
     slot_is_leaf = slot_grown.childless
 
   -- ---- in the root table
@@ -316,7 +315,7 @@ module _ {b : Book} {ledger : List Entry} {t : CharTrie} {next slots : ℕ} {nam
     entry_word used (RootEntry i) u = ap (word_number used) (get_or-set_other t.root_words c i no_word no_word (another_entry i u.1))
     entry_word used (Slot i) u = refl
 
-    entry_word_new : (used : ℕ) → word_at used with_entry (RootEntry c) ≡ NoWord
+    entry_word_new : (used : ℕ) → word_at used with_entry (RootEntry c) ≡ Ok None
     unfolding word_at word_number
     entry_word_new used = ap (word_number used) (get_or-set_same t.root_words c no_word no_word (rw tables.sizes.root_words_lem entry_inside))
 
@@ -372,5 +371,5 @@ module _ {b : Book} {ledger : List Entry} {t : CharTrie} {next slots : ℕ} {nam
       words = grown_words tables.tree entry_grown tables.words;
     }
 
-    pub entry_is_leaf : (d : ℕ) (q : ParentRef) → d < 2 ^ 21 → open_step with_entry (RootEntry c) d ≢ At q
+    pub entry_is_leaf : (d : ℕ) (q : ParentRef) → d < 2 ^ 21 → open_step with_entry (RootEntry c) d ≢ Ok (Some q)
     entry_is_leaf = entry_grown.childless

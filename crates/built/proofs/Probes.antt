@@ -14,9 +14,11 @@ use borrow.Author.Tests.{eq-eqb, ne_eqb, eqb-true, eqb-false, leb-true, leb-fals
 use lib.Dec.{eqb, leb}
 use lib.ListN.{length, get_or, set, length-set}
 use lib.Seq.{get_or-set_same, get_or-set_other}
+use Rattle.trie.specs.declared.Damaged.{Damaged}
+use Rattle.std.specs.Prelude.{Ok, Err, Result}
 use Rattle.trie.specs.declared.Probe.{Probe}
-use Rattle.trie.specs.declared.Probe.TheVariants.{Found, Empty, Endless}
-use Rattle.trie.specs.Trie.{next_slot, probe_from, empty_from}
+use Rattle.trie.specs.declared.Probe.TheVariants.{Found, Empty}
+use Rattle.trie.specs.Trie.{next_slot, probe_from, empty_from, damage}
 
 -- ---- the next slot
 
@@ -57,27 +59,27 @@ distance slots i e h k = go _ refl
 
 module _ (keys : List ℕ) (key n i : ℕ) where
   by_tests : probe_from (suc n) keys key i
-      ≡ cond (eqb (get_or keys i 0 % 2 ^ 48) key) (Found i) (cond (eqb (get_or keys i 0) 0) (Empty i) (probe_from n keys key (next_slot (length keys) i)))
+      ≡ cond (eqb (get_or keys i 0 % 2 ^ 48) key) (Ok (Found i)) (cond (eqb (get_or keys i 0) 0) (Ok (Empty i)) (probe_from n keys key (next_slot (length keys) i)))
   unfolding probe_from
   by_tests = go (eqb (get_or keys i 0 % 2 ^ 48) key) (eqb (get_or keys i 0) 0) (probe_from n keys key (next_slot (length keys) i))
     where
-      go : (a z : Bool) (rest : Probe) → elim a [ true ↦ Found i | false ↦ elim z [ true ↦ Empty i | false ↦ rest ] ] ≡ cond a (Found i) (cond z (Empty i) rest)
+      go : (a z : Bool) (rest : Result Probe Damaged) → elim a [ true ↦ Ok (Found i) | false ↦ elim z [ true ↦ Ok (Empty i) | false ↦ rest ] ] ≡ cond a (Ok (Found i)) (cond z (Ok (Empty i)) rest)
       go true z rest = refl
       go false true rest = refl
       go false false rest = refl
 
-  at_key : get_or keys i 0 % 2 ^ 48 ≡ key → probe_from (suc n) keys key i ≡ Found i
+  at_key : get_or keys i 0 % 2 ^ 48 ≡ key → probe_from (suc n) keys key i ≡ Ok (Found i)
   at_key e = by_tests ∙ (rw (eq-eqb _ _ e))
 
-  at_empty : get_or keys i 0 % 2 ^ 48 ≢ key → get_or keys i 0 ≡ 0 → probe_from (suc n) keys key i ≡ Empty i
+  at_empty : get_or keys i 0 % 2 ^ 48 ≢ key → get_or keys i 0 ≡ 0 → probe_from (suc n) keys key i ≡ Ok (Empty i)
   at_empty ne z = by_tests ∙ (rw (ne_eqb _ _ ne, eq-eqb _ _ z))
 
   pass : get_or keys i 0 % 2 ^ 48 ≢ key → get_or keys i 0 ≢ 0 → probe_from (suc n) keys key i ≡ probe_from n keys key (next_slot (length keys) i)
   pass ne nz = by_tests ∙ (rw (ne_eqb _ _ ne, ne_eqb _ _ nz))
 
-  data View : Probe → Type 0 where
-    its_key : get_or keys i 0 % 2 ^ 48 ≡ key → View (Found i)
-    its_empty : get_or keys i 0 % 2 ^ 48 ≢ key → get_or keys i 0 ≡ 0 → View (Empty i)
+  data View : Result Probe Damaged → Type 0 where
+    its_key : get_or keys i 0 % 2 ^ 48 ≡ key → View (Ok (Found i))
+    its_empty : get_or keys i 0 % 2 ^ 48 ≢ key → get_or keys i 0 ≡ 0 → View (Ok (Empty i))
     passed : get_or keys i 0 % 2 ^ 48 ≢ key → get_or keys i 0 ≢ 0 → View (probe_from n keys key (next_slot (length keys) i))
 
   view : View (probe_from (suc n) keys key i)
@@ -89,7 +91,7 @@ module _ (keys : List ℕ) (key n i : ℕ) where
       go false false ea ez = rw (pass (eqb-false _ _ ea) (eqb-false _ _ ez)) (passed (eqb-false _ _ ea) (eqb-false _ _ ez))
 
 -- the search for an empty slot: it stops at one, and goes past any other
-stop_at : (keys : List ℕ) (n i : ℕ) → get_or keys i 0 ≡ 0 → empty_from (suc n) keys i ≡ Empty i
+stop_at : (keys : List ℕ) (n i : ℕ) → get_or keys i 0 ≡ 0 → empty_from (suc n) keys i ≡ Ok i
 unfolding empty_from
 stop_at keys n i z = rw (eq-eqb _ _ z, empty_from)
 
@@ -98,20 +100,20 @@ unfolding empty_from
 go_past keys n i nz = rw (ne_eqb _ _ nz, empty_from)
 
 -- no slot probed: endless, so neither found nor empty
-unprobed_found : (keys : List ℕ) (key i j : ℕ) {A : Type 0} → probe_from zero keys key i ≡ Found j → A
+unprobed_found : (keys : List ℕ) (key i j : ℕ) {A : Type 0} → probe_from zero keys key i ≡ Ok (Found j) → A
 unfolding probe_from
 unprobed_found keys key i j p = let z : ◌≡◌ {A = ℕ} 0 1 = cc in absurd (omega arith)
 
-unprobed_empty : (keys : List ℕ) (key i j : ℕ) {A : Type 0} → probe_from zero keys key i ≡ Empty j → A
+unprobed_empty : (keys : List ℕ) (key i j : ℕ) {A : Type 0} → probe_from zero keys key i ≡ Ok (Empty j) → A
 unfolding probe_from
 unprobed_empty keys key i j p = let z : ◌≡◌ {A = ℕ} 0 1 = cc in absurd (omega arith)
 
 -- ---- where a probe ends
 
-abbrev pub Inside : ℕ → Probe → Type 0
-Inside slots (Found j) = j < slots
-Inside slots (Empty j) = j < slots
-Inside slots Endless = Unit {0}
+abbrev pub Inside : ℕ → Result Probe Damaged → Type 0
+Inside slots (Ok (Found j)) = j < slots
+Inside slots (Ok (Empty j)) = j < slots
+Inside slots (Err d) = Unit {0}
 
 module _ (keys : List ℕ) (key : ℕ) where
   pub inside : (n i : ℕ) → i < length keys → Inside (length keys) (probe_from n keys key i)
@@ -119,59 +121,59 @@ module _ (keys : List ℕ) (key : ℕ) where
   inside zero i h = tt
   inside (suc n) i h = go _ (view keys key n i) (inside n (next_slot (length keys) i) (next_inside (length keys) i h))
     where
-      go : (r : Probe) → View keys key n i r → Inside (length keys) (probe_from n keys key (next_slot (length keys) i)) → Inside (length keys) r
+      go : (r : Result Probe Damaged) → View keys key n i r → Inside (length keys) (probe_from n keys key (next_slot (length keys) i)) → Inside (length keys) r
       go r (its_key e) rest = h
       go r (its_empty ne z) rest = h
       go r (passed ne nz) rest = rest
 
-  pub found_key : (n i j : ℕ) → probe_from n keys key i ≡ Found j → get_or keys j 0 % 2 ^ 48 ≡ key
+  pub found_key : (n i j : ℕ) → probe_from n keys key i ≡ Ok (Found j) → get_or keys j 0 % 2 ^ 48 ≡ key
   found_key zero i j p = unprobed_found keys key i j p
   found_key (suc n) i j p = go _ (view keys key n i) (found_key n (next_slot (length keys) i) j) p
     where
-      go : (r : Probe) → View keys key n i r → (probe_from n keys key (next_slot (length keys) i) ≡ Found j → get_or keys j 0 % 2 ^ 48 ≡ key)
-          → r ≡ Found j → get_or keys j 0 % 2 ^ 48 ≡ key
+      go : (r : Result Probe Damaged) → View keys key n i r → (probe_from n keys key (next_slot (length keys) i) ≡ Ok (Found j) → get_or keys j 0 % 2 ^ 48 ≡ key)
+          → r ≡ Ok (Found j) → get_or keys j 0 % 2 ^ 48 ≡ key
       go r (its_key e) rest q = let same : i ≡ j = cc in rw (← same) e
       go r (its_empty ne z) rest q = let z : ◌≡◌ {A = ℕ} 0 1 = cc in absurd (omega arith)
       go r (passed ne nz) rest q = rest q
 
-  pub empty_key : (n i j : ℕ) → probe_from n keys key i ≡ Empty j → get_or keys j 0 ≡ 0
+  pub empty_key : (n i j : ℕ) → probe_from n keys key i ≡ Ok (Empty j) → get_or keys j 0 ≡ 0
   empty_key zero i j p = unprobed_empty keys key i j p
   empty_key (suc n) i j p = go _ (view keys key n i) (empty_key n (next_slot (length keys) i) j) p
     where
-      go : (r : Probe) → View keys key n i r → (probe_from n keys key (next_slot (length keys) i) ≡ Empty j → get_or keys j 0 ≡ 0) → r ≡ Empty j → get_or keys j 0 ≡ 0
+      go : (r : Result Probe Damaged) → View keys key n i r → (probe_from n keys key (next_slot (length keys) i) ≡ Ok (Empty j) → get_or keys j 0 ≡ 0) → r ≡ Ok (Empty j) → get_or keys j 0 ≡ 0
       go r (its_key e) rest q = let z : ◌≡◌ {A = ℕ} 0 1 = cc in absurd (omega arith)
       go r (its_empty ne z) rest q = let same : i ≡ j = cc in rw (← same) z
       go r (passed ne nz) rest q = rest q
 
   -- it is the first empty slot
-  pub first_empty : (n i j : ℕ) → probe_from n keys key i ≡ Empty j → empty_from n keys i ≡ Empty j
+  pub first_empty : (n i j : ℕ) → probe_from n keys key i ≡ Ok (Empty j) → empty_from n keys i ≡ Ok j
   first_empty zero i j p = unprobed_empty keys key i j p
   first_empty (suc n) i j p = go _ (view keys key n i) (first_empty n (next_slot (length keys) i) j) p
     where
-      go : (r : Probe) → View keys key n i r → (probe_from n keys key (next_slot (length keys) i) ≡ Empty j
-          → empty_from n keys (next_slot (length keys) i) ≡ Empty j)
-          → r ≡ Empty j → empty_from (suc n) keys i ≡ Empty j
+      go : (r : Result Probe Damaged) → View keys key n i r → (probe_from n keys key (next_slot (length keys) i) ≡ Ok (Empty j)
+          → empty_from n keys (next_slot (length keys) i) ≡ Ok j)
+          → r ≡ Ok (Empty j) → empty_from (suc n) keys i ≡ Ok j
       go r (its_key e) rest q = let z : ◌≡◌ {A = ℕ} 0 1 = cc in absurd (omega arith)
-      go r (its_empty ne z) rest q = stop_at keys n i z ∙ q
+      go r (its_empty ne z) rest q = (let same : i ≡ j = cc in stop_at keys n i z ∙ ap (λ (x : ℕ). Ok x) same)
       go r (passed ne nz) rest q = go_past keys n i nz ∙ rest q
 
   -- an endless probe met no empty slot
-  endless_met : (n i : ℕ) → i < length keys → probe_from n keys key i ≡ Endless → (e d : ℕ) → e < length keys → d < n → Ahead (length keys) i e d
+  endless_met : (n i : ℕ) → i < length keys → probe_from n keys key i ≡ Err damage → (e d : ℕ) → e < length keys → d < n → Ahead (length keys) i e d
       → get_or keys e 0 ≢ 0
   endless_met zero i h p e d k l a = absurd (omega arith)
   endless_met (suc n) i h p e d k l a = go _ (view keys key n i)
       (λ q d l a. endless_met n (next_slot (length keys) i) (next_inside (length keys) i h) q e d k l a) p d l a
     where
-      go : (r : Probe) → View keys key n i r
-          → (probe_from n keys key (next_slot (length keys) i) ≡ Endless → (d : ℕ) → d < n → Ahead (length keys) (next_slot (length keys) i) e d
+      go : (r : Result Probe Damaged) → View keys key n i r
+          → (probe_from n keys key (next_slot (length keys) i) ≡ Err damage → (d : ℕ) → d < n → Ahead (length keys) (next_slot (length keys) i) e d
           → get_or keys e 0 ≢ 0)
-          → r ≡ Endless → (d : ℕ) → d < suc n → Ahead (length keys) i e d → get_or keys e 0 ≢ 0
+          → r ≡ Err damage → (d : ℕ) → d < suc n → Ahead (length keys) i e d → get_or keys e 0 ≢ 0
       go r (its_key _) rest q d l a = let z : ◌≡◌ {A = ℕ} 0 1 = cc in absurd (omega arith)
       go r (its_empty _ _) rest q d l a = let z : ◌≡◌ {A = ℕ} 0 1 = cc in absurd (omega arith)
       go r (passed ne nz) rest q zero l a = rw (← none_ahead (length keys) i e h a) nz
       go r (passed ne nz) rest q (suc d) l a = rest q d (omega arith) (next_ahead (length keys) i e d h k a)
 
-  pub not_endless : (i e : ℕ) → i < length keys → e < length keys → get_or keys e 0 ≡ 0 → probe_from (length keys) keys key i ≢ Endless
+  pub not_endless : (i e : ℕ) → i < length keys → e < length keys → get_or keys e 0 ≡ 0 → probe_from (length keys) keys key i ≢ Err damage
   not_endless i e h k z p = let far = distance (length keys) i e h k in endless_met (length keys) i h p e far.0 k far.1 far.2 z
 
 -- ---- a store to an empty slot
@@ -188,13 +190,13 @@ module _ (keys : List ℕ) (j stored : ℕ) (free : get_or keys j 0 ≡ 0) where
       pass (set keys j stored) key n i (rw same ne) (rw same nz) ∙ (rw (length-set keys j stored))
 
   -- a key found before is found after; 0 is no key
-  pub found_kept : (key : ℕ) → key ≢ 0 → (n i s : ℕ) → probe_from n keys key i ≡ Found s → probe_from n (set keys j stored) key i ≡ Found s
+  pub found_kept : (key : ℕ) → key ≢ 0 → (n i s : ℕ) → probe_from n keys key i ≡ Ok (Found s) → probe_from n (set keys j stored) key i ≡ Ok (Found s)
   found_kept key some zero i s p = unprobed_found keys key i s p
   found_kept key some (suc n) i s p = go _ (view keys key n i) (found_kept key some n (next_slot (length keys) i) s) p
     where
-      go : (r : Probe) → View keys key n i r
-          → (probe_from n keys key (next_slot (length keys) i) ≡ Found s → probe_from n (set keys j stored) key (next_slot (length keys) i) ≡ Found s)
-          → r ≡ Found s → probe_from (suc n) (set keys j stored) key i ≡ Found s
+      go : (r : Result Probe Damaged) → View keys key n i r
+          → (probe_from n keys key (next_slot (length keys) i) ≡ Ok (Found s) → probe_from n (set keys j stored) key (next_slot (length keys) i) ≡ Ok (Found s))
+          → r ≡ Ok (Found s) → probe_from (suc n) (set keys j stored) key i ≡ Ok (Found s)
       go r (its_key e) rest q =
           let nz : get_or keys i 0 ≢ 0 = λ z. some (sym e ∙ ap (λ (k : ℕ). k % 2 ^ 48) z) in
           at_key (set keys j stored) key n i (rw (elsewhere i nz) e) ∙ q
@@ -202,19 +204,19 @@ module _ (keys : List ℕ) (j stored : ℕ) (free : get_or keys j 0 ≡ 0) where
       go r (passed ne nz) rest q = pass_still key n i ne nz ∙ rest q
 
   -- a probe that ended at the empty slot finds what is stored there
-  pub stored_found : (key : ℕ) → stored % 2 ^ 48 ≡ key → j < length keys → (n i : ℕ) → probe_from n keys key i ≡ Empty j
-      → probe_from n (set keys j stored) key i ≡ Found j
+  pub stored_found : (key : ℕ) → stored % 2 ^ 48 ≡ key → j < length keys → (n i : ℕ) → probe_from n keys key i ≡ Ok (Empty j)
+      → probe_from n (set keys j stored) key i ≡ Ok (Found j)
   stored_found key low l zero i p = unprobed_empty keys key i j p
   stored_found key low l (suc n) i p = go _ (view keys key n i) (stored_found key low l n (next_slot (length keys) i)) p
     where
       here : i ≡ j → get_or (set keys j stored) i 0 % 2 ^ 48 ≡ key
       here q = ap (λ (k : ℕ). get_or (set keys j stored) k 0 % 2 ^ 48) q ∙ ap (λ (k : ℕ). k % 2 ^ 48) (get_or-set_same keys j stored 0 l) ∙ low
 
-      go : (r : Probe) → View keys key n i r
-          → (probe_from n keys key (next_slot (length keys) i) ≡ Empty j → probe_from n (set keys j stored) key (next_slot (length keys) i) ≡ Found j)
-          → r ≡ Empty j → probe_from (suc n) (set keys j stored) key i ≡ Found j
+      go : (r : Result Probe Damaged) → View keys key n i r
+          → (probe_from n keys key (next_slot (length keys) i) ≡ Ok (Empty j) → probe_from n (set keys j stored) key (next_slot (length keys) i) ≡ Ok (Found j))
+          → r ≡ Ok (Empty j) → probe_from (suc n) (set keys j stored) key i ≡ Ok (Found j)
       go r (its_key e) rest q = let z : ◌≡◌ {A = ℕ} 0 1 = cc in absurd (omega arith)
-      go r (its_empty ne z) rest q = let same : i ≡ j = cc in at_key (set keys j stored) key n i (here same) ∙ ap Found same
+      go r (its_empty ne z) rest q = let same : i ≡ j = cc in at_key (set keys j stored) key n i (here same) ∙ ap (λ (x : ℕ). Ok (Found x)) same
       go r (passed ne nz) rest q = pass_still key n i ne nz ∙ rest q
 
 -- ---- any store, element by element

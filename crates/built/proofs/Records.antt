@@ -15,10 +15,9 @@ use lib.Dec.{eqb}
 use lib.Ieee.{nan}
 use lib.ListN.{length, get_or, length-set}
 use lib.Seq.{get_or-set_same, get_or-set_other}
+use Rattle.std.specs.Prelude.{Ok, Err, Some}
 use Rattle.trie.specs.declared.ParentRef.{ParentRef}
-use Rattle.trie.specs.declared.WordNumber.{WordNumber}
-use Rattle.trie.specs.declared.WordNumber.TheVariants.{Record, Bad}
-use Rattle.trie.specs.Trie.{CharTrie, word_at}
+use Rattle.trie.specs.Trie.{CharTrie, word_at, WordNumber, damage}
 use Rattle.score.specs.Logarithm.{log_float}
 use Rattle.book.specs.Returns.{Book, cell_frequency, frequency_at, greatest_total}
 use Rattle.book.specs.Enter.{cell_with_frequency, replaced}
@@ -29,7 +28,7 @@ use Rattle.built.proofs.Ledgers.{Compared, same, other, compare_words, entered_h
 use Rattle.built.proofs.Steps.{same_name}
 
 -- a word's record is in use, and holds the ledger's frequency
-pub record_holds : {b : Book} {ledger : List Entry} {word : List ℕ} {n : ℕ} → Agrees b ledger word (Record n)
+pub record_holds : {b : Book} {ledger : List Entry} {word : List ℕ} {n : ℕ} → Agrees b ledger word (Ok (Some n))
     → (n < b.head.records) × (frequency_in ledger word ≡ some (frequency_at b n))
 record_holds (in_record h e l) = (h, e)
 
@@ -44,16 +43,16 @@ compare m n = go _ refl
 
 -- b' and t' have record n for the word at node m, with this frequency; all other nodes and records are as in b and t
 pub record WordWritten (b b' : Book) (t t' : CharTrie) (next : ℕ) (place : ℕ → ParentRef) (m n frequency : ℕ) : Type 0 where
-  pub here : word_at b'.head.records t' (place m) ≡ Record n
+  pub here : word_at b'.head.records t' (place m) ≡ Ok (Some n)
   pub used : n < b'.head.records
   pub more : b.head.records ≤ b'.head.records
   pub its_frequency : frequency_at b' n ≡ frequency
   pub its_logarithm : get_or b'.logarithms n nan ≡ log_float frequency
   pub frequency_kept : (i : ℕ) → i ≢ n → frequency_at b' i ≡ frequency_at b i
   pub logarithm_kept : (i : ℕ) → i ≢ n → get_or b'.logarithms i nan ≡ get_or b.logarithms i nan
-  pub number_kept : (k : ℕ) → k < next → k ≢ m → word_at b.head.records t (place k) ≢ Bad
+  pub number_kept : (k : ℕ) → k < next → k ≢ m → word_at b.head.records t (place k) ≢ Err damage
       → word_at b'.head.records t' (place k) ≡ word_at b.head.records t (place k)
-  pub apart : (k : ℕ) → k < next → k ≢ m → word_at b.head.records t (place k) ≢ Record n
+  pub apart : (k : ℕ) → k < next → k ≢ m → word_at b.head.records t (place k) ≢ Ok (Some n)
 
 module _ {b b' : Book} {ledger : List Entry} {t t' : CharTrie} {next : ℕ} {name : ℕ → List ℕ} {place : ℕ → ParentRef}
     (tree : Tree t next name place) (words : Words b ledger t next name place)
@@ -65,10 +64,10 @@ module _ {b b' : Book} {ledger : List Entry} {t t' : CharTrie} {next : ℕ} {nam
   other_word : (k : ℕ) → k < next → k ≢ m → word ≢ reverse (name k)
   other_word k h ne e = ne (same_name tree (name m) k m h known (sym (reverse-reverse (name k)) ∙ ap reverse (sym e) ∙ sym named) refl)
 
-  not_bad : (k : ℕ) → k < next → word_at b.head.records t (place k) ≢ Bad
+  not_bad : (k : ℕ) → k < next → word_at b.head.records t (place k) ≢ Err damage
   not_bad k h e = go _ (words.agrees k h) e
     where
-      go : (number : WordNumber) → Agrees b ledger (reverse (name k)) number → number ≡ Bad → ⊥
+      go : (number : WordNumber) → Agrees b ledger (reverse (name k)) number → number ≡ Err damage → ⊥
       go number (not_entered f) e = let z : ◌≡◌ {A = ℕ} 0 1 = cc in omega arith
       go number (in_record h f l) e = let z : ◌≡◌ {A = ℕ} 0 1 = cc in omega arith
 
@@ -79,14 +78,14 @@ module _ {b b' : Book} {ledger : List Entry} {t t' : CharTrie} {next : ℕ} {nam
       → Agrees b' (enter_in ledger word frequency) (reverse (name k)) number
   still_agrees k h ne number e (not_entered f) = not_entered (others_kept ledger word frequency (reverse (name k)) (other_word k h ne) ∙ f)
   still_agrees k h ne number e (in_record {n = i} l f g) =
-      let differ : i ≢ n = λ q. w.apart k h ne (e ∙ ap Record q) in
+      let differ : i ≢ n = λ q. w.apart k h ne (e ∙ ap (λ (x : ℕ). Ok (Some x)) q) in
       let same_frequency : frequency_at b' i ≡ frequency_at b i = w.frequency_kept i differ in
       let more = w.more in
       let within : i < b'.head.records = omega arith in
       in_record within (others_kept ledger word frequency (reverse (name k)) (other_word k h ne) ∙ f ∙ ap some (sym same_frequency))
       (w.logarithm_kept i differ ∙ g ∙ ap log_float (sym same_frequency))
 
-  new_agrees : Agrees b' (enter_in ledger word frequency) word (Record n)
+  new_agrees : Agrees b' (enter_in ledger word frequency) word (Ok (Some n))
   new_agrees = in_record w.used (entered_has ledger word frequency ∙ ap some (sym w.its_frequency))
       (w.its_logarithm ∙ ap log_float (sym w.its_frequency))
 
@@ -105,19 +104,19 @@ module _ {b b' : Book} {ledger : List Entry} {t t' : CharTrie} {next : ℕ} {nam
       entered_by v f e (same q) = record { node = m; known = known; named = named ∙ ap reverse q }
       entered_by v f e (other ne) = words.entered v f (sym (others_kept ledger word frequency v ne) ∙ e)
 
-      moved : (j i : ℕ) → j < next → j ≢ m → word_at b'.head.records t' (place j) ≡ Record i → i ≡ n → ⊥
-      moved j i h ne e q = w.apart j h ne (sym (kept j h ne) ∙ e ∙ ap Record q)
+      moved : (j i : ℕ) → j < next → j ≢ m → word_at b'.head.records t' (place j) ≡ Ok (Some i) → i ≡ n → ⊥
+      moved j i h ne e q = w.apart j h ne (sym (kept j h ne) ∙ e ∙ ap (λ (x : ℕ). Ok (Some x)) q)
 
       own_by : (j k i : ℕ) → j < next → k < next → Compared j m → Compared k m
-          → word_at b'.head.records t' (place j) ≡ Record i → word_at b'.head.records t' (place k) ≡ Record i → j ≡ k
+          → word_at b'.head.records t' (place j) ≡ Ok (Some i) → word_at b'.head.records t' (place k) ≡ Ok (Some i) → j ≡ k
       own_by j k i hj hk (same p) (same q) ej ek = p ∙ sym q
       own_by j k i hj hk (same p) (other q) ej ek =
-          let its : word_at b'.head.records t' (place m) ≡ Record i = rw p at ej in
+          let its : word_at b'.head.records t' (place m) ≡ Ok (Some i) = rw p at ej in
           let new = w.here in
           let i_is : i ≡ n = cc in
           absurd (moved k i hk q ek i_is)
       own_by j k i hj hk (other p) (same q) ej ek =
-          let its : word_at b'.head.records t' (place m) ≡ Record i = rw q at ek in
+          let its : word_at b'.head.records t' (place m) ≡ Ok (Some i) = rw q at ek in
           let new = w.here in
           let i_is : i ≡ n = cc in
           absurd (moved j i hj p ej i_is)
@@ -127,7 +126,7 @@ module _ {b b' : Book} {ledger : List Entry} {t t' : CharTrie} {next : ℕ} {nam
 
 module _ {b : Book} {ledger : List Entry} (built : Built b ledger) (word : List ℕ) (m n frequency total : ℕ) (known : m < b.head.next)
     (named : built.name m ≡ reverse word)
-    (its_record : word_at b.head.records b.trie (built.place m) ≡ Record n) (agrees : Agrees b ledger word (Record n))
+    (its_record : word_at b.head.records b.trie (built.place m) ≡ Ok (Some n)) (agrees : Agrees b ledger word (Ok (Some n)))
     (total_is : total ≡ b.head.total - frequency_at b n + frequency) (total_most : total ≤ greatest_total) where
   abbrev place : ℕ → ParentRef
   place = built.place

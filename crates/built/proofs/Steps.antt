@@ -12,13 +12,13 @@ use native.Mathlib.Omega.{arith}
 use borrow.Author.Tests.{ne_eqb, eqb-true, eqb-false, ltb-true}
 use lib.Dec.{eqb}
 use lib.ListN.{length, get_or}
+use Rattle.trie.specs.declared.Damaged.{Damaged}
+use Rattle.std.specs.Prelude.{Ok, Err, Some, None, Result}
 use Rattle.trie.specs.declared.ParentRef.{ParentRef}
 use Rattle.trie.specs.declared.ParentRef.TheVariants.{Root, RootEntry, Slot}
 use Rattle.trie.specs.declared.Probe.{Probe}
-use Rattle.trie.specs.declared.Probe.TheVariants.{Found, Empty, Endless}
-use Rattle.trie.specs.declared.Step.{Step}
-use Rattle.trie.specs.declared.Step.TheVariants.{At, Nothing, Damaged}
-use Rattle.trie.specs.Trie.{CharTrie, key_of, probe_of, node_at, from_root, step_by_probe, open_step}
+use Rattle.trie.specs.declared.Probe.TheVariants.{Found, Empty}
+use Rattle.trie.specs.Trie.{CharTrie, key_of, probe_of, node_at, from_root, step_by_probe, open_step, Step, damage}
 use Rattle.book.specs.Returns.{Book}
 use Rattle.book.specs.Enter.{empty_slots}
 use Rattle.built.specs.Ledger.{Entry, frequency_in}
@@ -41,59 +41,59 @@ module _ (t : CharTrie) (p : ParentRef) (c : ℕ) where
   -- a step that leads on, through the root table or a slot
   pub data Leads : ParentRef → Type 0 where
     by_root : from_root t p c ≡ true → get_or t.root_children c 0 ≢ 0 → Leads (RootEntry c)
-    by_slot : {i : ℕ} → from_root t p c ≡ false → probe_of t.keys (key_of (node_at t p) c) ≡ Found i → Leads (Slot i)
+    by_slot : {i : ℕ} → from_root t p c ≡ false → probe_of t.keys (key_of (node_at t p) c) ≡ Ok (Found i) → Leads (Slot i)
 
   -- a step that is absent
   pub data Stops : Type 0 where
     no_root : from_root t p c ≡ true → get_or t.root_children c 0 ≡ 0 → Stops
-    no_slot : (j : ℕ) → from_root t p c ≡ false → probe_of t.keys (key_of (node_at t p) c) ≡ Empty j → Stops
+    no_slot : (j : ℕ) → from_root t p c ≡ false → probe_of t.keys (key_of (node_at t p) c) ≡ Ok (Empty j) → Stops
 
   -- the step by its tests
   pub step_tests : open_step t p c
-      ≡ cond (from_root t p c) (cond (eqb (get_or t.root_children c 0) 0) Nothing (At (RootEntry c))) (step_by_probe (probe_of t.keys (key_of (node_at t p) c)))
+      ≡ cond (from_root t p c) (cond (eqb (get_or t.root_children c 0) 0) (Ok None) (Ok (Some (RootEntry c)))) (step_by_probe (probe_of t.keys (key_of (node_at t p) c)))
   unfolding open_step
-  step_tests = go (from_root t p c) (cond (eqb (get_or t.root_children c 0) 0) Nothing (At (RootEntry c)))
+  step_tests = go (from_root t p c) (cond (eqb (get_or t.root_children c 0) 0) (Ok None) (Ok (Some (RootEntry c))))
       (step_by_probe (probe_of t.keys (key_of (node_at t p) c)))
     where
       go : (r : Bool) (x y : Step) → elim r [ true ↦ x | false ↦ y ] ≡ cond r x y
       go true x y = refl
       go false x y = refl
 
-  pub leads_of : (q : ParentRef) → open_step t p c ≡ At q → Leads q
+  pub leads_of : (q : ParentRef) → open_step t p c ≡ Ok (Some q) → Leads q
   leads_of q e = go (from_root t p c) (eqb (get_or t.root_children c 0) 0) (probe_of t.keys (key_of (node_at t p) c)) refl refl refl (sym step_tests ∙ e)
     where
-      go : (r z : Bool) (s : Probe) → from_root t p c ≡ r → eqb (get_or t.root_children c 0) 0 ≡ z → probe_of t.keys (key_of (node_at t p) c) ≡ s
-          → cond r (cond z Nothing (At (RootEntry c))) (step_by_probe s) ≡ At q → Leads q
+      go : (r z : Bool) (s : Result Probe Damaged) → from_root t p c ≡ r → eqb (get_or t.root_children c 0) 0 ≡ z → probe_of t.keys (key_of (node_at t p) c) ≡ s
+          → cond r (cond z (Ok None) (Ok (Some (RootEntry c)))) (step_by_probe s) ≡ Ok (Some q) → Leads q
       go true true s er ez es e = let z : ◌≡◌ {A = ℕ} 0 1 = cc in absurd (omega arith)
       go true false s er ez es e = let same : RootEntry c ≡ q = cc in subst Leads same (by_root er (eqb-false _ _ ez))
-      go false z (Found i) er ez es e = let same : Slot i ≡ q = cc in subst Leads same (by_slot er es)
-      go false z (Empty i) er ez es e = let z : ◌≡◌ {A = ℕ} 0 1 = cc in absurd (omega arith)
-      go false z Endless er ez es e = let z : ◌≡◌ {A = ℕ} 0 1 = cc in absurd (omega arith)
+      go false z (Ok (Found i)) er ez es e = let same : Slot i ≡ q = cc in subst Leads same (by_slot er es)
+      go false z (Ok (Empty i)) er ez es e = let z : ◌≡◌ {A = ℕ} 0 1 = cc in absurd (omega arith)
+      go false z (Err d) er ez es e = let z : ◌≡◌ {A = ℕ} 0 1 = cc in absurd (omega arith)
 
-  pub step_of : (q : ParentRef) → Leads q → open_step t p c ≡ At q
+  pub step_of : (q : ParentRef) → Leads q → open_step t p c ≡ Ok (Some q)
   step_of q (by_root e nz) = step_tests ∙ (rw (e, ne_eqb _ _ nz))
   step_of q (by_slot e f) = step_tests ∙ (rw (e, f))
 
-  pub stops_of : open_step t p c ≡ Nothing → Stops
+  pub stops_of : open_step t p c ≡ Ok None → Stops
   stops_of e = go (from_root t p c) (eqb (get_or t.root_children c 0) 0) (probe_of t.keys (key_of (node_at t p) c)) refl refl refl (sym step_tests ∙ e)
     where
-      go : (r z : Bool) (s : Probe) → from_root t p c ≡ r → eqb (get_or t.root_children c 0) 0 ≡ z → probe_of t.keys (key_of (node_at t p) c) ≡ s
-          → cond r (cond z Nothing (At (RootEntry c))) (step_by_probe s) ≡ Nothing → Stops
+      go : (r z : Bool) (s : Result Probe Damaged) → from_root t p c ≡ r → eqb (get_or t.root_children c 0) 0 ≡ z → probe_of t.keys (key_of (node_at t p) c) ≡ s
+          → cond r (cond z (Ok None) (Ok (Some (RootEntry c)))) (step_by_probe s) ≡ Ok None → Stops
       go true true s er ez es e = no_root er (eqb-true _ _ ez)
       go true false s er ez es e = let z : ◌≡◌ {A = ℕ} 0 1 = cc in absurd (omega arith)
-      go false z (Found i) er ez es e = let z : ◌≡◌ {A = ℕ} 0 1 = cc in absurd (omega arith)
-      go false z (Empty i) er ez es e = no_slot i er es
-      go false z Endless er ez es e = let z : ◌≡◌ {A = ℕ} 0 1 = cc in absurd (omega arith)
+      go false z (Ok (Found i)) er ez es e = let z : ◌≡◌ {A = ℕ} 0 1 = cc in absurd (omega arith)
+      go false z (Ok (Empty i)) er ez es e = no_slot i er es
+      go false z (Err d) er ez es e = let z : ◌≡◌ {A = ℕ} 0 1 = cc in absurd (omega arith)
 
-  pub not_damaged : probe_of t.keys (key_of (node_at t p) c) ≢ Endless → open_step t p c ≢ Damaged
+  pub not_damaged : probe_of t.keys (key_of (node_at t p) c) ≢ Err damage → open_step t p c ≢ Err damage
   not_damaged ends e = go (from_root t p c) (eqb (get_or t.root_children c 0) 0) (probe_of t.keys (key_of (node_at t p) c)) ends (sym step_tests ∙ e)
     where
-      go : (r z : Bool) (s : Probe) → s ≢ Endless → cond r (cond z Nothing (At (RootEntry c))) (step_by_probe s) ≡ Damaged → ⊥
+      go : (r z : Bool) (s : Result Probe Damaged) → s ≢ Err damage → cond r (cond z (Ok None) (Ok (Some (RootEntry c)))) (step_by_probe s) ≡ Err damage → ⊥
       go true true s ends e = let z : ◌≡◌ {A = ℕ} 0 1 = cc in omega arith
       go true false s ends e = let z : ◌≡◌ {A = ℕ} 0 1 = cc in omega arith
-      go false z (Found i) ends e = let z : ◌≡◌ {A = ℕ} 0 1 = cc in omega arith
-      go false z (Empty i) ends e = let z : ◌≡◌ {A = ℕ} 0 1 = cc in omega arith
-      go false z Endless ends e = ends refl
+      go false z (Ok (Found i)) ends e = let z : ◌≡◌ {A = ℕ} 0 1 = cc in omega arith
+      go false z (Ok (Empty i)) ends e = let z : ◌≡◌ {A = ℕ} 0 1 = cc in omega arith
+      go false z (Err d) ends e = ends refl
 
   -- the root table is asked at the root only, for characters that it has
   pub from_root_inside : from_root t p c ≡ true → c < length t.root_children
@@ -133,10 +133,10 @@ module _ {t : CharTrie} (sizes : Sizes t) where
     pub empty_left : 0 < empty_slots t.keys
     empty_left = omega (arith, store.slot_count_lem, store.load, slots_least (length t.keys) sizes.slots)
 
-    pub ends : (key : ℕ) → probe_of t.keys key ≢ Endless
+    pub ends : (key : ℕ) → probe_of t.keys key ≢ Err damage
     ends key = probe_ends t.keys key started empty_left
 
-    pub undamaged_step : (p : ParentRef) (c : ℕ) → open_step t p c ≢ Damaged
+    pub undamaged_step : (p : ParentRef) (c : ℕ) → open_step t p c ≢ Err damage
     undamaged_step p c = not_damaged t p c (ends (key_of (node_at t p) c))
 
     -- the new nodes of a word fit too: there are as many nodes as used slots and root entries, and the root
@@ -189,17 +189,17 @@ module _ {t : CharTrie} {next : ℕ} {name : ℕ → List ℕ} {place : ℕ → 
 
   -- a node with a name is the child of the node whose name is the rest
   pub child_named : (n c : ℕ) (rest : List ℕ) → n < next → name n ≡ c ∷ rest
-      → (parent : ℕ) × (parent < next) × (name parent ≡ rest) × (open_step t (place parent) c ≡ At (place n))
+      → (parent : ℕ) × (parent < next) × (name parent ≡ rest) × (open_step t (place parent) c ≡ Ok (Some (place n)))
   child_named n c rest h e = go (zero_or_more n)
     where
-      go : (n ≡ 0) ⊎ (0 < n) → (parent : ℕ) × (parent < next) × (name parent ≡ rest) × (open_step t (place parent) c ≡ At (place n))
+      go : (n ≡ 0) ⊎ (0 < n) → (parent : ℕ) × (parent < next) × (name parent ≡ rest) × (open_step t (place parent) c ≡ Ok (Some (place n)))
       go (inl z) = let both_ways : c ∷ rest ≡ [] = sym e ∙ ap name z ∙ tree.root_name in let z : ◌≡◌ {A = ℕ} 0 1 = cc in absurd (omega arith)
       go (inr s) =
           let o = tree.child n s h in
           let both_ways : c ∷ rest ≡ o.character ∷ name o.parent = sym e ∙ o.named in
           let first : o.character ≡ c = cc in
           let others : name o.parent ≡ rest = cc in
-          (o.parent, o.known, others, subst (λ (d : ℕ). open_step t (place o.parent) d ≡ At (place n)) first o.step)
+          (o.parent, o.known, others, subst (λ (d : ℕ). open_step t (place o.parent) d ≡ Ok (Some (place n))) first o.step)
 
   -- so no two nodes have one name
   pub same_name : (r : List ℕ) (m n : ℕ) → m < next → n < next → name m ≡ r → name n ≡ r → m ≡ n
@@ -208,16 +208,16 @@ module _ {t : CharTrie} {next : ℕ} {name : ℕ → List ℕ} {place : ℕ → 
       let pm = child_named m c r hm em in
       let pn = child_named n c r hn en in
       let up : pm.0 ≡ pn.0 = same_name r pm.0 pn.0 pm.1 pn.1 pm.2 pn.2 in
-      let led : open_step t (place pn.0) c ≡ At (place m) = subst (λ (k : ℕ). open_step t (place k) c ≡ At (place m)) up pm.3 in
-      let other : open_step t (place pn.0) c ≡ At (place n) = pn.3 in
+      let led : open_step t (place pn.0) c ≡ Ok (Some (place m)) = subst (λ (k : ℕ). open_step t (place k) c ≡ Ok (Some (place m))) up pm.3 in
+      let other : open_step t (place pn.0) c ≡ Ok (Some (place n)) = pn.3 in
       same_place m n hm hn (cc)
 
   -- where a known node's step is absent, no node has the name that it would lead to
-  pub nameless : (n c : ℕ) → n < next → open_step t (place n) c ≡ Nothing → (m : ℕ) → m < next → name m ≢ c ∷ name n
+  pub nameless : (n c : ℕ) → n < next → open_step t (place n) c ≡ Ok None → (m : ℕ) → m < next → name m ≢ c ∷ name n
   nameless n c h e m hm em =
       let up = child_named m c (name n) hm em in
       let same : up.0 ≡ n = same_name (name n) up.0 n up.1 h up.2 refl in
-      let there : open_step t (place n) c ≡ At (place m) = subst (λ (k : ℕ). open_step t (place k) c ≡ At (place m)) same up.3 in
+      let there : open_step t (place n) c ≡ Ok (Some (place m)) = subst (λ (k : ℕ). open_step t (place k) c ≡ Ok (Some (place m))) same up.3 in
       let z : ◌≡◌ {A = ℕ} 0 1 = cc in omega arith
 
   -- nor has any the same name with more characters

@@ -6,17 +6,14 @@
 -- one character before its parent's; and a `place`, the root, root entry or slot that leads to it. The two are functions from node numbers, kept
 -- for the proof alone. Those parts that hold in the midst of an insertion too are of a trie with its next node and slots used, given apart.
 -- Assumes nothing.
-use Rattle.std.specs.Prelude.{◌≡◌, ◌≢◌, true, cond, List, [], ◌∷◌, reverse, ℕ, ◌+◌, ◌*◌, ◌%◌, ◌^◌, ◌<◌, ◌≤◌, eqb, length, get_or}
+use Rattle.std.specs.Prelude.{◌≡◌, ◌≢◌, true, cond, List, [], ◌∷◌, reverse, ℕ, ◌+◌, ◌*◌, ◌%◌, ◌^◌, ◌<◌, ◌≤◌, eqb, length, get_or, Ok, Some, None}
 use Rattle.std.proofs.Math.Option.{none, some}
 use Rattle.std.specs.Float.{nan}
 use Rattle.trie.specs.declared.ParentRef.{ParentRef}
 use Rattle.trie.specs.declared.ParentRef.TheVariants.{Root}
 use Rattle.trie.specs.declared.Probe.TheVariants.{Found}
-use Rattle.trie.specs.declared.Step.TheVariants.{At}
-use Rattle.trie.specs.declared.WordNumber.{WordNumber}
-use Rattle.trie.specs.declared.WordNumber.TheVariants.{NoWord, Record}
 use Rattle.trie.specs.SlotCounts.{slot_count}
-use Rattle.trie.specs.Trie.{CharTrie, probe_of, node_at, open_step, bits_at, word_at}
+use Rattle.trie.specs.Trie.{CharTrie, probe_of, node_at, open_step, bits_at, word_at, WordNumber}
 use Rattle.score.specs.Logarithm.{log_float}
 use Rattle.book.specs.Returns.{Book, frequency_at, most_records, greatest_total}
 use Rattle.book.specs.Enter.{empty_slots}
@@ -43,7 +40,7 @@ pub record Child (t : CharTrie) (next : ℕ) (name : ℕ → List ℕ) (place : 
   pub known : parent < next
   pub within : character < 2 ^ 21
   pub named : name n ≡ character ∷ name parent
-  pub step : open_step t (place parent) character ≡ At (place n)
+  pub step : open_step t (place parent) character ≡ Ok (Some (place n))
   pub node : node_at t (place n) ≡ n
 
 -- a place that a step from a parent leads to is a known node's, whose name is that character before the parent's; and the parent has the
@@ -59,7 +56,7 @@ pub record Tree (t : CharTrie) (next : ℕ) (name : ℕ → List ℕ) (place : �
   pub root_name : name 0 ≡ []
   pub root_place : place 0 ≡ Root
   pub child : (n : ℕ) → 0 < n → n < next → Child t next name place n
-  pub led : (parent character : ℕ) (p : ParentRef) → parent < next → character < 2 ^ 21 → open_step t (place parent) character ≡ At p
+  pub led : (parent character : ℕ) (p : ParentRef) → parent < next → character < 2 ^ 21 → open_step t (place parent) character ≡ Ok (Some p)
       → LedTo t next name place parent character p
 
 -- ---- the store
@@ -69,7 +66,7 @@ pub record Tree (t : CharTrie) (next : ℕ) (name : ℕ → List ℕ) (place : �
 -- The head's counts are those of the tables: as many slots are used as have a key, and there is a node for each of them, for each root entry that is
 -- not empty, and for the root. At most three quarters of the slots are used, so there is an empty one, at which every probe ends.
 pub record Store (t : CharTrie) (next slots : ℕ) : Type 0 where
-  pub found : (i : ℕ) → i < length t.keys → get_or t.keys i 0 ≢ 0 → probe_of t.keys (get_or t.keys i 0 % 2 ^ 48) ≡ Found i
+  pub found : (i : ℕ) → i < length t.keys → get_or t.keys i 0 ≢ 0 → probe_of t.keys (get_or t.keys i 0 % 2 ^ 48) ≡ Ok (Found i)
   pub keys_least : (i : ℕ) → i < length t.keys → get_or t.keys i 0 ≢ 0 → 1 ≤ get_or t.keys i 0 % 2 ^ 48
   pub keys_most : (i : ℕ) → i < length t.keys → get_or t.keys i 0 ≢ 0 → get_or t.keys i 0 % 2 ^ 48 ≤ next * 2 ^ 21
   pub slot_count_lem : slots + empty_slots t.keys ≡ length t.keys
@@ -81,9 +78,9 @@ pub record Store (t : CharTrie) (next slots : ℕ) : Type 0 where
 -- what a word number says of a word: it is none, and the ledger does not have the word; or it is that of a record in use, which holds the ledger's
 -- frequency and "its logarithm as a double"
 pub data Agrees (b : Book) (ledger : List Entry) (word : List ℕ) : WordNumber → Type 0 where
-  not_entered : frequency_in ledger word ≡ none → Agrees b ledger word NoWord
+  not_entered : frequency_in ledger word ≡ none → Agrees b ledger word (Ok None)
   in_record : {n : ℕ} → n < b.head.records → frequency_in ledger word ≡ some (frequency_at b n)
-      → get_or b.logarithms n nan ≡ log_float (frequency_at b n) → Agrees b ledger word (Record n)
+      → get_or b.logarithms n nan ≡ log_float (frequency_at b n) → Agrees b ledger word (Ok (Some n))
 
 -- the node of a word
 pub record NodeOf (next : ℕ) (name : ℕ → List ℕ) (word : List ℕ) : Type 0 where
@@ -95,7 +92,7 @@ pub record NodeOf (next : ℕ) (name : ℕ → List ℕ) (word : List ℕ) : Typ
 pub record Words (b : Book) (ledger : List Entry) (t : CharTrie) (next : ℕ) (name : ℕ → List ℕ) (place : ℕ → ParentRef) : Type 0 where
   pub agrees : (n : ℕ) → n < next → Agrees b ledger (reverse (name n)) (word_at b.head.records t (place n))
   pub entered : (word : List ℕ) (frequency : ℕ) → frequency_in ledger word ≡ some frequency → NodeOf next name word
-  pub own : (m n k : ℕ) → m < next → n < next → word_at b.head.records t (place m) ≡ Record k → word_at b.head.records t (place n) ≡ Record k → m ≡ n
+  pub own : (m n k : ℕ) → m < next → n < next → word_at b.head.records t (place m) ≡ Ok (Some k) → word_at b.head.records t (place n) ≡ Ok (Some k) → m ≡ n
 
 -- ---- the records and the total
 

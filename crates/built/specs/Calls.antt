@@ -2,8 +2,7 @@
 -- else writes there". A call's bytes and its number are any at all, so malformed, overlong, empty and refused calls are calls like others.
 -- Assumes nothing.
 use Rattle.std.specs.Prelude.{ℕ, true, List, [], ◌∷◌, ◌≡◌}
-use Rattle.book.specs.declared.Outcome.{Outcome}
-use Rattle.book.specs.Returns.{Book, allowed, empty_book}
+use Rattle.book.specs.Returns.{Book, allowed, empty_book, Outcome}
 use Rattle.book.specs.Enter.{add_of, load_of}
 use Rattle.built.specs.Ledger.{Entry, ledger_after_add, ledger_after_load}
 

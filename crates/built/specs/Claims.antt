@@ -3,19 +3,15 @@
 -- Each claim is of a book and its ledger as any list of loads and additions leaves them, from an empty book of any sizes that 01 allows.
 -- Proofs: `proofs/Claims.antt`.
 -- Assumes nothing.
-use Rattle.std.specs.Prelude.{◌≡◌, ◌≢◌, true, false, List, [], ◌∷◌, ℕ, suc, ◌≤◌, ◌<◌, length, get_or, take}
+use Rattle.std.specs.Prelude.{◌≡◌, ◌≢◌, true, false, List, [], ◌∷◌, ℕ, suc, ◌≤◌, ◌<◌, length, get_or, take, Ok, Some, None, Err}
 use Rattle.std.proofs.Math.Option.{Option, none, some}
 use Rattle.std.specs.Float.{nan}
 use Rattle.utf8.specs.Encoding.{Scalar, Scalars}
-use Rattle.trie.specs.declared.Got.{Got}
-use Rattle.trie.specs.declared.Got.TheVariants.{Held, Absent}
 use Rattle.trie.specs.declared.ParentRef.{ParentRef}
 use Rattle.trie.specs.declared.ParentRef.TheVariants.{Root}
-use Rattle.trie.specs.declared.Probe.TheVariants.{Endless}
-use Rattle.trie.specs.declared.Step.TheVariants.{At}
-use Rattle.trie.specs.Trie.{probe_of, open_step, tested_step, walk, get_of}
+use Rattle.trie.specs.Trie.{probe_of, open_step, tested_step, walk, get_of, WordNumber, damage}
 use Rattle.score.specs.Logarithm.{log_float}
-use Rattle.book.specs.declared.Outcome.TheVariants.{Damaged}
+use Rattle.book.specs.declared.Refusal.TheVariants.{Damaged}
 use Rattle.book.specs.Returns.{Book, frequency_at, sized, greatest_total, greatest_next, damaged_head, empty_book, emptied, prepare_of, lookup_of}
 use Rattle.book.specs.Prefixes.{words_from}
 use Rattle.built.specs.Ledger.{Entry, frequency_in, sum_of, EachOnce, ledger_lookup, ledger_words}
@@ -39,10 +35,10 @@ PreparedIsBuilt = (b : Book) → sized b ≡ true
 
 -- what a lookup in the trie finds of a word: where the ledger has it with a frequency, a record of that frequency and "its logarithm as a double", and
 -- where the ledger does not have it, nothing. It is never damage.
-pub data HeldAs (b : Book) : Option ℕ → Got → Type 0 where
+pub data HeldAs (b : Book) : Option ℕ → WordNumber → Type 0 where
   held : {n frequency : ℕ} → n < b.head.records → frequency_at b n ≡ frequency → get_or b.logarithms n nan ≡ log_float frequency
-      → HeldAs b (some frequency) (Held n)
-  absent : HeldAs b none Absent
+      → HeldAs b (some frequency) (Ok (Some n))
+  absent : HeldAs b none (Ok None)
 
 -- "a word is held exactly when the ledger has it; its frequency is the one there"
 abbrev pub HeldAsLedger : Type 0
@@ -76,7 +72,7 @@ pub record Undamaged (b : Book) : Type 0 where
   pub head : damaged_head b ≡ false
   pub next_least : 1 ≤ b.head.next
   pub next_most : b.head.next ≤ greatest_next
-  pub probes_end : (key : ℕ) → probe_of b.trie.keys key ≢ Endless
+  pub probes_end : (key : ℕ) → probe_of b.trie.keys key ≢ Err damage
 
 abbrev pub NoDamage : Type 0
 NoDamage = (b : Book) (ledger : List Entry) → BuiltByCalls b ledger → Undamaged b
@@ -84,7 +80,7 @@ NoDamage = (b : Book) (ledger : List Entry) → BuiltByCalls b ledger → Undama
 -- and no call of the list answered with 8
 abbrev pub NoneDamaged : List Answer → Type 0
 NoneDamaged [] = Unit {0}
-NoneDamaged (a ∷ answers) = (a.outcome ≢ Damaged) × NoneDamaged answers
+NoneDamaged (a ∷ answers) = (a.outcome ≢ (Err Damaged)) × NoneDamaged answers
 
 abbrev pub NoDamageAnswered : Type 0
 NoDamageAnswered = (roots slots records : ℕ) (calls : List Call) → allowed_sizes roots slots records → NoneDamaged (answers_from roots slots records calls)
@@ -95,7 +91,7 @@ NoDamageAnswered = (roots slots records : ℕ) (calls : List Call) → allowed_s
 -- bits finds what one finds that tests none
 abbrev pub BitsHideNothing : Type 0
 BitsHideNothing = (b : Book) (ledger : List Entry) → BuiltByCalls b ledger
-    → (word : List ℕ) (p : ParentRef) (c : ℕ) → Scalars word → Scalar c → walk b.trie Root word ≡ At p → tested_step b.trie p c ≡ open_step b.trie p c
+    → (word : List ℕ) (p : ParentRef) (c : ℕ) → Scalars word → Scalar c → walk b.trie Root word ≡ Ok (Some p) → tested_step b.trie p c ≡ open_step b.trie p c
 
 -- ---- two books
 

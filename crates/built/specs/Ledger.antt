@@ -1,16 +1,13 @@
 -- The ledger: document 01, "Two books side by side". It "is fed each call's text and frequency and what the call returned, nothing from the book":
 -- no definition of this file takes a book. Below it stands what lookups and walks answer by the ledger alone.
 -- Assumes nothing.
-use Rattle.std.specs.Prelude.{ℕ, ◌+◌, ◌-◌, Bool, true, false, cond, ◌&&◌, List, [], ◌∷◌, ◌++◌, ◌≡◌, eqb, leb, length, take}
+use Rattle.std.specs.Prelude.{ℕ, ◌+◌, ◌-◌, Bool, true, false, cond, ◌&&◌, List, [], ◌∷◌, ◌++◌, ◌≡◌, eqb, leb, length, take, Some, None, Ok, Err}
 use Rattle.std.proofs.Math.Option.{Option, none, some}
 use Rattle.utf8.specs.Text.{chars_of}
 use Rattle.lines.specs.Lines.{lines_of, Meaning, malformed, blank, bad_frequency, entry, meaning_of}
 use Rattle.score.specs.Logarithm.{log_float}
-use Rattle.book.specs.declared.Outcome.{Outcome}
-use Rattle.book.specs.declared.Outcome.TheVariants.{TooLong, Malformed}
-use Rattle.book.specs.declared.Found.{Found}
-use Rattle.book.specs.declared.Found.TheVariants.{Frequency, Absent, NotLookedUp}
-use Rattle.book.specs.Returns.{number_of, longest_text}
+use Rattle.book.specs.declared.Refusal.TheVariants.{TooLong, Malformed}
+use Rattle.book.specs.Returns.{number_of, longest_text, Found, Outcome}
 use Rattle.book.specs.Prefixes.{Edge}
 
 -- ---- words and frequencies
@@ -86,16 +83,16 @@ ledger_after_load ledger text outcome line =
 -- ---- what lookups and walks answer by the ledger
 
 abbrev pub found_in_ledger : Option ℕ → Found
-found_in_ledger none = Absent
-found_in_ledger (some frequency) = Frequency frequency
+found_in_ledger none = Ok None
+found_in_ledger (some frequency) = Ok (Some frequency)
 
 abbrev pub ledger_lookup_chars : List Entry → Option (List ℕ) → Found
-ledger_lookup_chars ledger none = NotLookedUp Malformed
+ledger_lookup_chars ledger none = Err Malformed
 ledger_lookup_chars ledger (some cs) = found_in_ledger (frequency_in ledger cs)
 
 -- a lookup: 2 and 3 by the text alone, and then the frequency of the ledger or "absent"
 unfoldable pub ledger_lookup : List Entry → List ℕ → Found
-ledger_lookup ledger text = cond (leb (length text) longest_text) (ledger_lookup_chars ledger (chars_of text)) (NotLookedUp TooLong)
+ledger_lookup ledger text = cond (leb (length text) longest_text) (ledger_lookup_chars ledger (chars_of text)) (Err TooLong)
 
 -- a word that ends here, with L of its frequency, before the words that end later
 abbrev pub edge_before : ℕ → Option ℕ → List Edge → List Edge

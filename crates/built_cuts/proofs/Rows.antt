@@ -1,6 +1,7 @@
 -- The words of a block by the ledger, as rows: for each position the beginnings of what follows that the ledger has, ends rising. In a book built by
 -- calls the walk from each position meets exactly these (`walk_as_ledger`), so the block's edges are theirs, and its cuts go by them.
 -- Assumes nothing.
+use Rattle.std.specs.Prelude.{Err}
 use mathlib.Core.Path.{◌≡◌, refl, sym, ap, ◌∙◌, subst}
 use mathlib.Core.Bool.{Bool, true, false, cond}
 use mathlib.Core.List.Memᴰ
@@ -14,7 +15,7 @@ use lib.Dec.{leb, ltb}
 use lib.ListN.{length, get_or, take, drop, length-drop, length-map}
 use Rattle.utf8.specs.Encoding.{Scalars}
 use Rattle.score.specs.Logarithm.{log_float}
-use Rattle.book.specs.declared.Outcome.TheVariants.{EdgesFull}
+use Rattle.book.specs.declared.Refusal.TheVariants.{EdgesFull}
 use Rattle.book.specs.Returns.{Book}
 use Rattle.book.specs.Prefixes.{Edge, words_from}
 use Rattle.built.specs.Ledger.{Entry, frequency_in, edge_before, words_after, ledger_words}
@@ -176,7 +177,7 @@ module _ (b : Book) (ledger : List Entry) (by : BuiltByCalls b ledger) where
 
 -- the rows where they fit, and 10 where they do not
 abbrev or_full : Bool → List (List Edge) → Edges
-or_full fits rows = cond fits (edges rows) (stopped EdgesFull)
+or_full fits rows = cond fits (edges rows) (stopped (Err EdgesFull))
 
 -- a position's edges before those of the later ones
 before_rows : (es : List Edge) (rows : List (List Edge)) (fits : Bool) → before es (or_full fits rows) ≡ or_full fits (es ∷ rows)
@@ -201,7 +202,7 @@ edges_within_lem (row ∷ rows) room = by (edges_within (room - length es) (map 
 
     by : (rest : Edges) → rest ≡ or_full (leb (word_count rows) (room - length es)) (edges_of rows)
         → (full : Bool) → ltb room (length es) ≡ full
-        → ◌≡◌ {A = Edges} (elim full [ true ↦ stopped EdgesFull | false ↦ before es rest ])
+        → ◌≡◌ {A = Edges} (elim full [ true ↦ stopped (Err EdgesFull) | false ↦ before es rest ])
         (or_full (leb (length row + word_count rows) room) (es ∷ edges_of rows))
     by rest r true e = rw (lt-leb (length row + word_count rows) room (omega (arith, ltb-true room (length es) e, length-map row edge_of)))
     by rest r false e =
@@ -213,7 +214,7 @@ edges_within_lem (row ∷ rows) room = by (edges_within (room - length es) (map 
 
 -- a cut that goes by edges, which are all there or more than the room
 by_room : (fits : Bool) (rows : List (List Edge)) (f : Edges → CutAnswer)
-    → f (cond fits (edges rows) (stopped EdgesFull)) ≡ cond fits (f (edges rows)) (f (stopped EdgesFull))
+    → f (cond fits (edges rows) (stopped (Err EdgesFull))) ≡ cond fits (f (edges rows)) (f (stopped (Err EdgesFull)))
 by_room true rows f = refl
 by_room false rows f = refl
 

@@ -3,6 +3,7 @@
 -- one that ends so many characters on was met at the last of these steps, where the lookup reads the same word number. Where the step finds nothing both
 -- are at their end. A bad number and a probe without an end would have been damage to the walk.
 -- Assumes nothing.
+use Rattle.std.specs.Prelude.{Err}
 use mathlib.Core.Path.{◌≡◌, refl}
 use mathlib.Core.Bool.{Bool, true, false, true≢false}
 use mathlib.Core.List.{List, [], ◌∷◌}
@@ -12,16 +13,11 @@ use native.Mathlib.Omega.{arith}
 use borrow.Author.Tests.{eq-eqb, ne_eqb}
 use lib.Dec.{eqb, ltb}
 use lib.ListN.{length, get_or, take, drop}
-use Rattle.trie.specs.declared.Got.{Got}
-use Rattle.trie.specs.declared.Got.TheVariants.{Held, Absent, Damaged as DamagedWord}
+use Rattle.std.specs.Prelude.{Ok, Err, Some, None}
 use Rattle.trie.specs.declared.ParentRef.{ParentRef}
 use Rattle.trie.specs.declared.ParentRef.TheVariants.{Root}
-use Rattle.trie.specs.declared.Step.{Step}
-use Rattle.trie.specs.declared.Step.TheVariants.{At, Nothing, Damaged}
-use Rattle.trie.specs.declared.WordNumber.{WordNumber}
-use Rattle.trie.specs.declared.WordNumber.TheVariants.{NoWord, Record, Bad}
-use Rattle.trie.specs.Trie.{tested_step, walk, word_at, got_by_word, get_of}
-use Rattle.book.specs.declared.Outcome.TheVariants.{EdgesFull, Damaged as DamagedBook}
+use Rattle.trie.specs.Trie.{tested_step, walk, word_at, get_of, Step, WordNumber, damage}
+use Rattle.book.specs.declared.Refusal.TheVariants.{EdgesFull, Damaged as DamagedBook}
 use Rattle.book.specs.Returns.{Book}
 use Rattle.book.specs.Prefixes.{Edge, Walked, ended, broken, met_before, walk_on, words_from}
 use Rattle.cuts.specs.Edges.{walks_of, Edges, edges, stopped, before, edges_within}
@@ -33,27 +29,27 @@ abbrev some_ends : ℕ → List Edge → Bool
 some_ends end es = any_of (λ (e : Edge). eqb e.end end) es
 
 -- both have a word, or neither, and there is no damage
-data Agree : Bool → Got → Type 0 where
-  both_held : {n : ℕ} → Agree true (Held n)
-  neither : Agree false Absent
+data Agree : Bool → WordNumber → Type 0 where
+  both_held : {n : ℕ} → Agree true (Ok (Some n))
+  neither : Agree false (Ok None)
 
 module _ (b : Book) where
   -- what a lookup finds where its steps led
-  abbrev got_at : Step → Got
-  got_at s = elim s [ At p ↦ got_by_word (word_at b.head.records b.trie p) | Nothing ↦ Absent | Damaged ↦ DamagedWord ]
+  abbrev got_at : Step → WordNumber
+  got_at s = elim s [ Ok (Some p) ↦ word_at b.head.records b.trie p | Ok None ↦ Ok None | Err d ↦ Err d ]
 
   -- what a walk meets from a step on, whose character ends at a position
   abbrev walk_from : ℕ → List ℕ → Step → Walked
-  walk_from next cs s = elim s [ At q ↦ met_before b (word_at b.head.records b.trie q) next (walk_on b q next cs) | Nothing ↦ ended | Damaged ↦ broken ]
+  walk_from next cs s = elim s [ Ok (Some q) ↦ met_before b (word_at b.head.records b.trie q) next (walk_on b q next cs) | Ok None ↦ ended | Err d ↦ broken ]
 
   -- ---- a walk's words end behind its first position
 
   -- the word of the first step ends behind it, as those of the later steps
   later_by : (number : WordNumber) (next end : ℕ) (w : Walked) → end < next → some_ends end w.edges ≡ false
       → some_ends end (met_before b number next w).edges ≡ false
-  later_by NoWord next end w h rest = rest
-  later_by (Record n) next end w h rest = rw (ne_eqb next end (λ e. omega arith), rest)
-  later_by Bad next end w h rest = refl
+  later_by (Ok None) next end w h rest = rest
+  later_by (Ok (Some n)) next end w h rest = rw (ne_eqb next end (λ e. omega arith), rest)
+  later_by (Err d) next end w h rest = refl
 
   ends_later : (cs : List ℕ) (p : ParentRef) (at end : ℕ) → end ≤ at → some_ends end (walk_on b p at cs).edges ≡ false
   unfolding walk_on
@@ -62,25 +58,25 @@ module _ (b : Book) where
     where
       by : ((q : ParentRef) → some_ends end (walk_on b q (at + 1) cs).edges ≡ false)
           → (s : Step) → some_ends end (walk_from (at + 1) cs s).edges ≡ false
-      by rest (At q) = later_by (word_at b.head.records b.trie q) (at + 1) end (walk_on b q (at + 1) cs) (omega arith) (rest q)
-      by rest Nothing = refl
-      by rest Damaged = refl
+      by rest (Ok (Some q)) = later_by (word_at b.head.records b.trie q) (at + 1) end (walk_on b q (at + 1) cs) (omega arith) (rest q)
+      by rest (Ok None) = refl
+      by rest (Err d) = refl
 
   -- ---- a walk beside a lookup
 
   -- at the last step the walk has the word that the lookup finds, and its later words end later
   last_step : (number : WordNumber) (next : ℕ) (w : Walked) → (met_before b number next w).damaged ≡ false → some_ends next w.edges ≡ false
-      → Agree (some_ends next (met_before b number next w).edges) (got_by_word number)
-  last_step NoWord next w sound rest = rw rest neither
-  last_step (Record n) next w sound rest = rw (eq-eqb next next refl) both_held
-  last_step Bad next w sound rest = absurd (true≢false sound)
+      → Agree (some_ends next (met_before b number next w).edges) number
+  last_step (Ok None) next w sound rest = rw rest neither
+  last_step (Ok (Some n)) next w sound rest = rw (eq-eqb next next refl) both_held
+  last_step (Err d) next w sound rest = absurd (true≢false sound)
 
   -- at an earlier step the walk's word ends too early
-  earlier_step : (number : WordNumber) (next end : ℕ) (w : Walked) (g : Got) → next < end → (met_before b number next w).damaged ≡ false
+  earlier_step : (number : WordNumber) (next end : ℕ) (w : Walked) (g : WordNumber) → next < end → (met_before b number next w).damaged ≡ false
       → (w.damaged ≡ false → Agree (some_ends end w.edges) g) → Agree (some_ends end (met_before b number next w).edges) g
-  earlier_step NoWord next end w g h sound rest = rest sound
-  earlier_step (Record n) next end w g h sound rest = rw (ne_eqb next end (λ e. omega arith)) (rest sound)
-  earlier_step Bad next end w g h sound rest = absurd (true≢false sound)
+  earlier_step (Ok None) next end w g h sound rest = rest sound
+  earlier_step (Ok (Some n)) next end w g h sound rest = rw (ne_eqb next end (λ e. omega arith)) (rest sound)
+  earlier_step (Err d) next end w g h sound rest = absurd (true≢false sound)
 
   -- step by step, from any place
   agree : (cs : List ℕ) (p : ParentRef) (at n end : ℕ) → end ≡ at + suc n → suc n ≤ length cs → (walk_on b p at cs).damaged ≡ false
@@ -95,15 +91,15 @@ module _ (b : Book) where
           → (s : Step)
           → (walk_from (at + 1) cs s).damaged ≡ false
           → Agree (some_ends end (walk_from (at + 1) cs s).edges)
-          (got_at (elim s [ At q ↦ walk b.trie q (take n cs) | Nothing ↦ Nothing | Damaged ↦ Damaged ]))
-      by zero e h rest (At q) sound =
+          (got_at (elim s [ Ok (Some q) ↦ walk b.trie q (take n cs) | Ok None ↦ Ok None | Err d ↦ Err d ]))
+      by zero e h rest (Ok (Some q)) sound =
           let next : end ≡ at + 1 = omega arith in
           rw next (last_step (word_at b.head.records b.trie q) (at + 1) (walk_on b q (at + 1) cs) sound (ends_later cs q (at + 1) (at + 1) (omega arith)))
-      by (suc m) e h rest (At q) sound =
+      by (suc m) e h rest (Ok (Some q)) sound =
           earlier_step (word_at b.head.records b.trie q) (at + 1) end (walk_on b q (at + 1) cs) _ (omega arith) sound
           (rest q m (omega arith) (omega arith))
-      by n e h rest Nothing sound = neither
-      by n e h rest Damaged sound = absurd (true≢false sound)
+      by n e h rest (Ok None) sound = neither
+      by n e h rest (Err d) sound = absurd (true≢false sound)
 
   -- from the root, of no characters too: no word ends where its walk starts, and none is looked up
   agree_from_root : (at size : ℕ) (cs : List ℕ) → size ≤ length cs → (words_from b at cs).damaged ≡ false
@@ -115,11 +111,11 @@ module _ (b : Book) where
 -- ---- the claims
 
 -- the two parts of what is claimed
-agree_same : (held : Bool) (g : Got) → Agree held g → held ≡ is_held g
+agree_same : (held : Bool) (g : WordNumber) → Agree held g → held ≡ is_held g
 agree_same held g both_held = refl
 agree_same held g neither = refl
 
-agree_undamaged : (held : Bool) (g : Got) → Agree held g → g ≢ DamagedWord
+agree_undamaged : (held : Bool) (g : WordNumber) → Agree held g → g ≢ Err damage
 agree_undamaged held g both_held e = let z : ◌≡◌ {A = ℕ} 0 1 = cc in omega arith
 agree_undamaged held g neither e = let z : ◌≡◌ {A = ℕ} 0 1 = cc in omega arith
 
@@ -145,8 +141,8 @@ first_row room w ws rows e = by (ltb room (length w.edges)) w.damaged refl (edge
   where
     by : (full damaged : Bool) → w.damaged ≡ damaged → (rest : Edges)
         → ◌≡◌ {A = Edges} (elim full [
-          | true ↦ stopped EdgesFull
-          | false ↦ elim damaged [ true ↦ stopped DamagedBook | false ↦ before w.edges rest ]
+          | true ↦ stopped (Err EdgesFull)
+          | false ↦ elim damaged [ true ↦ stopped (Err DamagedBook) | false ↦ before w.edges rest ]
         ]) (edges rows)
         → FirstRow w rest rows
     by true damaged d rest q = let z : ◌≡◌ {A = ℕ} 0 1 = cc in absurd (omega arith)

@@ -3,18 +3,16 @@
 -- what the public cuts do with a block of their class; `GoesByRows` ties them to the rows and routes of which the claims speak.
 -- Proofs: `proofs/Routes.antt`, `proofs/Ties.antt`, `proofs/Sentences.antt`, `proofs/SearchWords.antt`.
 -- Assumes nothing.
-use Rattle.std.specs.Prelude.{ℕ, ◌+◌, ◌≤◌, ◌<◌, Bool, true, false, cond, ◌≢◌, ◌≡◌, eqb, leb, length, get_or, take, drop}
+use Rattle.std.specs.Prelude.{ℕ, ◌+◌, ◌≤◌, ◌<◌, Bool, true, false, cond, ◌≢◌, ◌≡◌, eqb, leb, length, get_or, take, drop, Ok, Err, Some, None}
 use mathlib.Core.List.{List, [], ◌∷◌, map, Memᴰ}
 use Rattle.std.proofs.Math.Option.{some}
 use Rattle.std.specs.Float.{nan}
 use Rattle.utf8.specs.Encoding.{Scalars}
 use Rattle.utf8.specs.Text.{chars_of}
-use Rattle.trie.specs.declared.Got.{Got}
-use Rattle.trie.specs.declared.Got.TheVariants.{Held as HeldWord, Absent, Damaged}
-use Rattle.trie.specs.Trie.{get_of}
+use Rattle.trie.specs.Trie.{get_of, WordNumber, damage}
 use Rattle.score.specs.Scores.{Held}
 use Rattle.score.specs.Logarithm.{log_float}
-use Rattle.book.specs.declared.Outcome.TheVariants.{EdgesFull}
+use Rattle.book.specs.declared.Refusal.TheVariants.{EdgesFull}
 use Rattle.book.specs.Returns.{Book, longest_text}
 use Rattle.book.specs.Prefixes.{Edge, Walked, words_from}
 use Rattle.built.specs.Ledger.{Entry, frequency_in}
@@ -62,17 +60,17 @@ met es = record { edges = es; damaged = false }
 -- edges, or answers 10 exactly where "a block has more edges than the edge area"
 pub record WalksMeet (b : Book) (cs : List ℕ) (rows : List (List Word)) : Type 0 where
   pub walks : walks_of (words_from b) 0 cs ≡ map met (edges_of rows)
-  pub within : (room : ℕ) → edges_within room (walks_of (words_from b) 0 cs) ≡ cond (leb (word_count rows) room) (edges (edges_of rows)) (stopped EdgesFull)
+  pub within : (room : ℕ) → edges_within room (walks_of (words_from b) 0 cs) ≡ cond (leb (word_count rows) room) (edges (edges_of rows)) (stopped (Err EdgesFull))
 
 -- so `cut` and `cut_for_search` of the block go by the route through these very rows: the tokens along it, or 10
 pub record GoesByRows (b : Book) (cs : List ℕ) (rows : List (List Word)) : Type 0 where
   pub cut : (room : ℕ) (base : Base) (w : Written)
       → cut_block (vocabulary_of b) room base (block_of true cs) w
-      ≡ cond (leb (word_count rows) room) (put_spans base cs w (cut_route cs (route_of (log_float b.head.total) 0 (edges_of rows)))) (answer EdgesFull w)
+      ≡ cond (leb (word_count rows) room) (put_spans base cs w (cut_route cs (route_of (log_float b.head.total) 0 (edges_of rows)))) (answer (Err EdgesFull) w)
   pub cut_for_search : (room : ℕ) (base : Base) (w : Written)
       → search_block (vocabulary_of b) room base (block_of true cs) w
       ≡ cond (leb (word_count rows) room) (put_spans base cs w
-      (searched cs (edges_of rows) (cut_route cs (route_of (log_float b.head.total) 0 (edges_of rows))))) (answer EdgesFull w)
+      (searched cs (edges_of rows) (cut_route cs (route_of (log_float b.head.total) 0 (edges_of rows))))) (answer (Err EdgesFull) w)
 
 -- the words that a cut of the block goes by
 pub record BlockWords (b : Book) (ledger : List Entry) (cs : List ℕ) : Type 0 where
@@ -184,19 +182,19 @@ ShortestInSentences =
 -- ---- search words
 
 -- whether a lookup in the trie found a word
-abbrev pub is_held : Got → Bool
-is_held (HeldWord n) = true
-is_held Absent = false
-is_held Damaged = false
+abbrev pub is_held : WordNumber → Bool
+is_held (Ok (Some n)) = true
+is_held (Ok None) = false
+is_held (Err d) = false
 
 -- what a lookup in a book finds of a word
-abbrev pub looked_up : Book → List ℕ → Got
+abbrev pub looked_up : Book → List ℕ → WordNumber
 looked_up b word = get_of b.head.records b.trie word
 
 -- a lookup finds a word or not, as the walk has it or not, and meets no damage
 pub record AsLookedUp (b : Book) (word : List ℕ) (held : Bool) : Type 0 where
   pub same : held ≡ is_held (looked_up b word)
-  pub undamaged : looked_up b word ≢ Damaged
+  pub undamaged : looked_up b word ≢ Err damage
 
 -- 01, "Search, per token": "its held 2-character words", "its held 3-character words". In every book, built or not: where the walk from a position met no
 -- damage, one of its words ends so many characters on exactly where a lookup finds these characters; and no such lookup meets damage, so search never

@@ -27,14 +27,12 @@ fn best_of(
     ensures chosen_of { ChosenOf edge_ends.now edge_records.now from to result }
 {
     let mut choice = Choice::NoEdge;
-    let mut place = from;
-    while place < to {
+    for place in from..to {
         let end = edge_ends[place];
         let record = edge_records[place];
         let logarithm = logarithms[record as usize];
         let score = scores[end as usize];
         choice = route::next_choice(choice, logarithm, log_total, score, end, record);
-        place += 1;
     }
     choice
 }
@@ -76,10 +74,8 @@ pub fn calc(
     scores[n] = 0.0;
     ends[n] = n as u32;
     records[n] = route::NO_RECORD;
-    let mut i = n;
-    while 0 < i {
-        let next = i;
-        i -= 1;
+    for i in (0..n).rev() {
+        let next = i + 1;
         let choice = best_of(
             edge_ends,
             edge_records,

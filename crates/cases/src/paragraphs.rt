@@ -1,19 +1,23 @@
 //! The cases of an input. They are paragraphs, parted by empty lines; a paragraph that begins with `#` is a note for the reader. The
 //! ends of lines within a case lay it out and do not count: there `\n` is LF, `\r` is CR, and `\` with two hexadecimal digits in
 //! capitals is any byte.
-ghost use Rattle.std.specs.Prelude.{◌<◌, ◌≤◌, length, IfOk};
-ghost use Rattle.cases.specs.Counts.{IsPrefixLen};
+ghost use Rattle.std.specs.Prelude.{◌<◌, length, IfSome};
+ghost use Rattle.std.specs.Iterator.{at_most};
 
 use crate::output::print;
-use crate::script;
 use std::io;
 use std::io::Read;
 
-// Reads until the input ends or the space is full, and returns how many bytes it put at the space's start.
-fn read_full(input: &mut impl Read, space: &mut [u8]) -> io::Result<usize>
-    ensures { IfOk result (λ n. IsPrefixLen n space.new) }
-{
+// The bytes that the input may have, and one more.
+const SPACE: usize = 65536;
+
+// The bytes that a case may have, and one more.
+const CASE: usize = 4096;
+
+// Reads the input. One that fills the space may be cut short, and counts as empty.
+fn read<'a>(rt: &impl Print, input: &mut impl Read, space: &'a mut [u8]) -> io::Result<&'a [u8]> {
     let mut done = 0;
+    // Kept: a loop by count: each read says how far it came, and the next goes on from there.
     while done < space.len() {
         let n = input.read(&mut space[done..])?;
         if n == 0 {
@@ -21,27 +25,15 @@ fn read_full(input: &mut impl Read, space: &mut [u8]) -> io::Result<usize>
         }
         done += n;
     }
-    Ok(done)
-}
-
-// Reads the input, and returns its length. One that fills the space may be cut short, and counts as empty.
-pub fn read(rt: &impl Print, input: &mut impl Read, space: &mut [u8]) -> io::Result<usize>
-    ensures { IfOk result (λ n. IsPrefixLen n space.new) }
-{
-    let length = read_full(input, space)?;
-    if length == space.len() {
+    if done == space.len() {
         print(rt, b"the input is too long\n")?;
-        return Ok(0);
+        return Ok(&[]);
     }
-    Ok(length)
-}
-
-// The byte at a place, and 0 behind the end.
-fn byte_at(s: &[u8], i: usize) -> u8 {
-    if i < s.len() { s[i] } else { 0 }
+    Ok(&space[..done])
 }
 
 // The value of a digit, and 0 for any other byte.
+// Kept: 0 is what a case says with such a byte, and no refusal, so that there is no `Option`.
 fn value_of(digit: u8) -> u8
     ensures { result < 16 }
 {
@@ -52,96 +44,103 @@ fn value_of(digit: u8) -> u8
     }
 }
 
-// The byte that a paragraph says at a place.
-fn said(paragraph: &[u8], i: usize) -> u8
-    requires { i < length paragraph.now }
+// The first byte that a paragraph says, none for the end of a line, and the paragraph after it.
+fn said(paragraph: &[u8]) -> Option<(Option<u8>, &[u8])>
+    ensures { IfSome result (λ said. length said.1.now < length paragraph.now) }
 {
-    let b = paragraph[i];
-    if b != b'\\' {
-        return b;
-    }
-    let first = byte_at(paragraph, i + 1);
-    match first {
-        b'n' => 0x0A,
-        b'r' => 0x0D,
-        _ => 16 * value_of(first) + value_of(byte_at(paragraph, i + 2)),
-    }
-}
-
-// How many bytes say it there.
-fn width(paragraph: &[u8], i: usize) -> usize
-    requires { i < length paragraph.now }
-    ensures { (1 ≤ result) × (result ≤ 3) }
-{
-    if paragraph[i] != b'\\' {
-        return 1;
-    }
-    match byte_at(paragraph, i + 1) {
-        b'n' => 2,
-        b'r' => 2,
-        _ => 3,
+    match paragraph {
+        [] => None,
+        [b'\n', rest @ ..] => Some((None, rest)),
+        [b'\\', b'n', rest @ ..] => Some((Some(b'\n'), rest)),
+        [b'\\', b'r', rest @ ..] => Some((Some(b'\r'), rest)),
+        [b'\\', high, low, rest @ ..] => Some((Some(16 * value_of(*high) + value_of(*low)), rest)),
+        [b'\\', high] => Some((Some(16 * value_of(*high)), &[])),
+        [b'\\'] => Some((Some(0), &[])),
+        [byte, rest @ ..] => Some((Some(*byte), rest)),
     }
 }
 
-// 1 for a byte that is part of the case, and 0 for the end of a line.
-fn counted(b: u8) -> usize
-    ensures { result ≤ 1 }
-{
-    if b == b'\n' { 0 } else { 1 }
-}
-
-// Writes a byte at a place of the case, and returns the place for the next one: where it does not count, the same place.
-fn put(case: &mut [u8], at: usize, byte: u8, count: usize) -> usize
-    requires { (at < length case.old) × (count ≤ 1) }
-    ensures { result ≤ length case.new }
-{
-    case[at] = byte;
-    at + count
-}
-
-// Writes what a paragraph says from the case's start on, and returns its length. What does not fit is left out.
-fn decode(paragraph: &[u8], case: &mut [u8]) -> usize
-    ensures { IsPrefixLen result case.new }
-{
-    let mut written: usize = 0;
-    let mut i: usize = 0;
-    while i < paragraph.len() && written < case.len() {
-        let byte = said(paragraph, i);
-        let count = counted(paragraph[i]);
-        let next = i + width(paragraph, i);
-        written = put(case, written, byte, count);
-        i = next;
-    }
-    written
-}
-
-// Writes the case that a paragraph says from the space's start on, and returns its length: 0 where the paragraph is a note. A case
-// that fills the space may be cut short, and is none.
-pub fn case_of(rt: &impl Print, paragraph: &[u8], space: &mut [u8]) -> io::Result<usize>
-    ensures { IfOk result (λ n. IsPrefixLen n space.new) }
-{
-    if script::name(paragraph) == b'#' {
-        return Ok(0);
-    }
-    let length = decode(paragraph, space);
-    if length == space.len() {
-        print(rt, b"a case is too long\n")?;
-        return Ok(0);
-    }
-    Ok(length)
-}
-
-// Where the paragraph at a place ends: before an empty line, or at the text's end.
-pub fn paragraph_end(text: &[u8], from: usize) -> usize
-    requires { from ≤ length text.now }
-    ensures { (from ≤ result) × (result ≤ length text.now) }
-{
-    let mut i = from;
-    while i < text.len() {
-        if text[i] == b'\n' && byte_at(text, i + 1) == b'\n' {
-            return i;
+// Writes what a paragraph says from the space's start on. What does not fit is left out.
+fn decode<'a>(paragraph: &[u8], space: &'a mut [u8]) -> &'a [u8] {
+    let mut written = 0;
+    let mut rest = paragraph;
+    while let Some((byte, after)) = said(rest) {
+        if written == space.len() {
+            break;
         }
-        i += 1;
+        if let Some(byte) = byte {
+            space[written] = byte;
+            written += 1;
+        }
+        rest = after;
     }
-    i
+    &space[..written]
+}
+
+// The case that a paragraph says, if it is not a note. A case that fills the space may be cut short, and is none.
+fn case_of<'a>(
+    rt: &impl Print,
+    paragraph: &[u8],
+    space: &'a mut [u8],
+) -> io::Result<Option<&'a [u8]>> {
+    if paragraph.starts_with(b"#") {
+        return Ok(None);
+    }
+    let places = space.len();
+    let case = decode(paragraph, space);
+    if case.len() == places {
+        print(rt, b"a case is too long\n")?;
+        return Ok(None);
+    }
+    if case.is_empty() {
+        return Ok(None);
+    }
+    Ok(Some(case))
+}
+
+// The paragraphs of a text one after the other: each ends before an empty line, or at the text's end.
+#[derive(Drop)]
+struct Paragraphs<'a>(&'a [u8]);
+
+impl<'a> Iterator for Paragraphs<'a> {
+    type Item = &'a [u8];
+
+    ghost remaining = { λ s. at_most (length s.0.now) };
+
+    fn next(&mut self) -> Option<&'a [u8]> {
+        let text = self.0;
+        if text.is_empty() {
+            return None;
+        }
+        let Some(end) = text
+            .windows(2)
+            .position(|pair| matches!(pair, [b'\n', b'\n']))
+        else {
+            self.0 = &[];
+            return Some(text);
+        };
+        self.0 = &text[end + 2..];
+        Some(&text[..end])
+    }
+}
+
+// Prints the heading of a program's output, and plays the cases of its input.
+pub fn play_all<F: Fn(&[u8]) -> io::Result<()>>(
+    rt: &impl Print,
+    input: &mut impl Read,
+    heading: &[u8],
+    play: F,
+) -> io::Result<()>
+    requires { F.IsAlwaysCallable play }
+{
+    let mut space = [0u8; SPACE];
+    let text = read(rt, input, &mut space)?;
+    print(rt, heading)?;
+    for paragraph in Paragraphs(text) {
+        let mut space = [0u8; CASE];
+        if let Some(case) = case_of(rt, paragraph, &mut space)? {
+            play(case)?;
+        }
+    }
+    Ok(())
 }

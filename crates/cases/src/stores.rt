@@ -1,54 +1,63 @@
 //! Stores into a book's areas, by which a book is made that no call builds. `NAME FROM END VALUE` stores a value into the places
 //! from the first number on to below the second. The first letter tells the stores apart: `table` and `root` are the root entries'
 //! children and word numbers; `keys`, `children` and `words` are the slots'. Each program names its stores into the records itself.
-ghost use Rattle.std.specs.Prelude.{◌≤◌};
-
 use crate::script;
-
-// What a store changes of a number: all of it, its low 32 bits, or its high 32, where a word number stands with one added.
-#[derive(Clone, Copy)]
-enum Part {
-    Whole,
-    Child,
-    WordNumber,
-}
 
 const HALF: u64 = 0x1_0000_0000;
 
-// A number after a store. The word number 2^32 - 1 has no room for one more, and stands for none.
-fn stored(old: u64, part: Part, value: u64) -> u64 {
-    match part {
-        Part::Whole => value,
-        Part::Child => old / HALF * HALF + value % HALF,
-        Part::WordNumber => (value % HALF + 1) % HALF * HALF + old % HALF,
-    }
+// ---- What a store makes of a number and a value.
+
+fn whole(_old: u64, value: u64) -> u64 {
+    value
 }
 
-// Into every number of an area, or every other one, from a place on to below another.
-fn store(s: &mut [u64], from: usize, end: usize, step: usize, part: Part, value: u64)
-    requires { (1 ≤ step) × (step ≤ 2) }
-{
-    let mut i = from;
-    while i < s.len() && i < end {
-        s[i] = stored(s[i], part, value);
-        i += step;
-    }
+// A child stands in a number's low 32 bits.
+fn child(old: u64, value: u64) -> u64 {
+    old / HALF * HALF + value % HALF
+}
+
+// A word number stands in the high 32 with one added. 2^32 - 1 has no room for one more, and stands for none.
+fn word_number(old: u64, value: u64) -> u64 {
+    (value % HALF + 1) % HALF * HALF + old % HALF
+}
+
+// ---- The stores
+
+// The places of an area that a store changes.
+fn places(command: &[u8]) -> (usize, usize) {
+    (
+        script::number(command, 1) as usize,
+        script::number(command, 2) as usize,
+    )
 }
 
 // A place is one number.
-fn store_singly(s: &mut [u64], part: Part, command: &[u8]) {
-    let from = script::number(command, 1) as usize;
-    let end = script::number(command, 2) as usize;
-    store(s, from, end, 1, part, script::number(command, 3));
+fn store_singly<F: Fn(u64, u64) -> u64>(s: &mut [u64], command: &[u8], stored: F)
+    requires { F.IsAlwaysCallable stored }
+{
+    let (from, end) = places(command);
+    let value = script::number(command, 3);
+    for number in s.iter_mut().take(end).skip(from) {
+        *number = stored(*number, value);
+    }
 }
 
 // A place is a slot: the first of its two numbers, or the second.
-fn store_in_pairs(slots: &mut [u64], second: usize, part: Part, command: &[u8])
-    requires { second ≤ 1 }
+fn store_in_pairs<F: Fn(u64, u64) -> u64>(
+    slots: &mut [u64],
+    second: usize,
+    command: &[u8],
+    stored: F,
+)
+    requires { F.IsAlwaysCallable stored }
 {
-    let from = 2 * script::length(command, 1, slots.len()) + second;
-    let end = 2 * script::length(command, 2, slots.len()) + second;
-    store(slots, from, end, 2, part, script::number(command, 3));
+    let (from, end) = places(command);
+    let value = script::number(command, 3);
+    for slot in slots.chunks_mut(2).take(end).skip(from) {
+        if let Some(number) = slot.get_mut(second) {
+            *number = stored(*number, value);
+        }
+    }
 }
 
 // The double of these bits. A NaN comes from a division: `from_bits` takes no bits of one.
@@ -61,35 +70,33 @@ fn double(bits: u64) -> f64 {
 
 // The value is a double's 64 bits.
 pub fn store_f64(s: &mut [f64], command: &[u8]) {
+    let (from, end) = places(command);
     let value = double(script::number(command, 3));
-    let end = script::number(command, 2) as usize;
-    let mut i = script::number(command, 1) as usize;
-    while i < s.len() && i < end {
-        s[i] = value;
-        i += 1;
+    for number in s.iter_mut().take(end).skip(from) {
+        *number = value;
     }
 }
 
 // `table` and `root`; any other command stores nothing here.
 pub fn store_in_root(roots: &mut [u64], command: &[u8]) {
-    match script::name(command) {
-        b't' => store_singly(roots, Part::Child, command),
-        b'r' => store_singly(roots, Part::WordNumber, command),
+    match command {
+        [b't', ..] => store_singly(roots, command, child),
+        [b'r', ..] => store_singly(roots, command, word_number),
         _ => {}
     }
 }
 
 // `keys`, `children` and `words`; any other command stores nothing here.
 pub fn store_in_slots(slots: &mut [u64], command: &[u8]) {
-    match script::name(command) {
-        b'k' => store_in_pairs(slots, 0, Part::Whole, command),
-        b'c' => store_in_pairs(slots, 1, Part::Child, command),
-        b'w' => store_in_pairs(slots, 1, Part::WordNumber, command),
+    match command {
+        [b'k', ..] => store_in_pairs(slots, 0, command, whole),
+        [b'c', ..] => store_in_pairs(slots, 1, command, child),
+        [b'w', ..] => store_in_pairs(slots, 1, command, word_number),
         _ => {}
     }
 }
 
 // Whole records, with both halves.
 pub fn store_records(records: &mut [u64], command: &[u8]) {
-    store_singly(records, Part::Whole, command);
+    store_singly(records, command, whole);
 }

@@ -1,19 +1,15 @@
 //! Frequencies, and lines of a dictionary text: where the word stands, in bytes, and its frequency.
 use crate::output::print_bytes;
 use cases::output::{print, print_decimal};
-use lines::{Frequency, Line};
+use lines::{Entry, LineError};
 use std::io;
 
 fn print_frequency(rt: &impl Print, field: &[u8]) -> io::Result<()> {
     print_bytes(rt, field)?;
     print(rt, b": ")?;
     match lines::parse_frequency(field) {
-        Frequency::Value(n) => {
-            print_decimal(rt, n as u64)?;
-        }
-        Frequency::Malformed => {
-            print(rt, b"refused")?;
-        }
+        Ok(n) => print_decimal(rt, u64::from(n))?,
+        Err(_) => print(rt, b"refused")?,
     }
     print(rt, b"\n")
 }
@@ -46,22 +42,16 @@ fn print_line(rt: &impl Print, line: &[u8]) -> io::Result<()> {
     print_bytes(rt, line)?;
     print(rt, b": ")?;
     match lines::parse_line(line) {
-        Line::Malformed => {
-            print(rt, b"malformed")?;
-        }
-        Line::Blank => {
-            print(rt, b"blank")?;
-        }
-        Line::BadFrequency => {
-            print(rt, b"no frequency")?;
-        }
-        Line::Entry(start, end, n) => {
+        Err(LineError::Malformed) => print(rt, b"malformed")?,
+        Err(LineError::BadFrequency) => print(rt, b"no frequency")?,
+        Ok(None) => print(rt, b"blank")?,
+        Ok(Some(Entry { word, frequency })) => {
             print(rt, b"word from ")?;
-            print_decimal(rt, start as u64)?;
+            print_decimal(rt, word.start as u64)?;
             print(rt, b" to ")?;
-            print_decimal(rt, end as u64)?;
+            print_decimal(rt, word.end as u64)?;
             print(rt, b", frequency ")?;
-            print_decimal(rt, n as u64)?;
+            print_decimal(rt, u64::from(frequency))?;
         }
     }
     print(rt, b"\n")

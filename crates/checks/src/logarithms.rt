@@ -8,12 +8,10 @@ use std::io;
 
 // A double in decimal, where it is a whole number from 0 to below 2^64.
 fn print_whole(rt: &impl Print, x: f64) -> io::Result<()> {
-    if x > -1.0 {
-        if x < 18446744073709551616.0 {
-            let n = std::num::truncating_f64_to_u64(x);
-            if std::num::nearest_u64_to_f64(n) == x {
-                return print_decimal(rt, n);
-            }
+    if x > -1.0 && x < 18446744073709551616.0 {
+        let n = std::num::truncating_f64_to_u64(x);
+        if std::num::nearest_u64_to_f64(n) == x {
+            return print_decimal(rt, n);
         }
     }
     print(rt, b"no whole number")
@@ -21,7 +19,7 @@ fn print_whole(rt: &impl Print, x: f64) -> io::Result<()> {
 
 // A number, and what its L is said to be.
 fn print_log(rt: &impl Print, n: u32, l: f64) -> io::Result<()> {
-    print_decimal(rt, n as u64)?;
+    print_decimal(rt, u64::from(n))?;
     print(rt, b": ")?;
     if l == score::minus_infinity() {
         print(rt, b"minus infinity")?;
@@ -45,14 +43,12 @@ fn print_looked_up(rt: &impl Print, table: &LogTable, n: u32) -> io::Result<()>
 fn alike(table: &LogTable) -> u32
     requires { is_log_table table.now ≡ true }
 {
-    let mut n: u32 = 0;
-    while n < 3000 {
+    for n in 0..3000 {
         if logs::log_by(table, n) != score::log(n) {
             return n;
         }
-        n += 1;
     }
-    n
+    3000
 }
 
 // The table's ends and their neighbours, and every number to well beyond it.
@@ -69,7 +65,7 @@ fn print_table(rt: &impl Print) -> io::Result<()> {
     print_looked_up(rt, &table, 1025)?;
     print_looked_up(rt, &table, 4294967295)?;
     print(rt, b"from 0 up as worked out: ")?;
-    print_decimal(rt, alike(&table) as u64)?;
+    print_decimal(rt, u64::from(alike(&table)))?;
     print(rt, b" numbers\n")
 }
 

@@ -3,15 +3,15 @@ ghost use Rattle.std.specs.Prelude.{◌<◌, ◌≤◌};
 
 use cases::output::{print, print_decimal};
 use std::io;
-use utf8::Character;
+use utf8::{Malformed, NextChar};
 
 fn digit(d: u32) -> u8
     requires { d < 16 }
 {
     if d < 10 {
-        0x30 + d as u8
+        b'0' + d as u8
     } else {
-        0x37 + d as u8
+        b'A' + (d - 10) as u8
     }
 }
 
@@ -20,19 +20,16 @@ fn places(x: u32, least: u32) -> u32
     requires { least ≤ 8 }
     ensures { result ≤ 8 }
 {
-    let needed = (35 - u32::leading_zeros(x)) / 4;
-    if needed < least { least } else { needed }
+    let needed = (35 - x.leading_zeros()) / 4;
+    needed.max(least)
 }
 
 // x in hexadecimal, in upper case as documents write code points, with at least so many digits.
 pub fn print_hex(rt: &impl Print, x: u32, least: u32) -> io::Result<()>
     requires { least ≤ 8 }
 {
-    let mut left = places(x, least);
-    while 0 < left {
-        left -= 1;
-        let one = [digit((x >> (4 * left)) % 16)];
-        print(rt, &one)?;
+    for place in (0..places(x, least)).rev() {
+        print(rt, &[digit((x >> (4 * place)) % 16)])?;
     }
     Ok(())
 }
@@ -60,47 +57,35 @@ pub fn print_number_of(rt: &impl Print, n: usize, thing: &[u8]) -> io::Result<()
     Ok(())
 }
 
-fn wide(b: u8) -> u32 {
-    b as u32
-}
-
-// The byte at a position of a text, with a space before all but the first.
-fn print_byte(rt: &impl Print, b: u8, at: usize) -> io::Result<()> {
-    if 0 < at {
-        print(rt, b" ")?;
-    }
-    print_hex(rt, wide(b), 2)
-}
-
 // The bytes of a text, as `E4 BD A0`.
 pub fn print_bytes(rt: &impl Print, s: &[u8]) -> io::Result<()> {
-    if s.len() == 0 {
+    if s.is_empty() {
         return print(rt, b"no bytes");
     }
-    let mut i = 0;
-    while i < s.len() {
-        print_byte(rt, s[i], i)?;
-        i += 1;
+    for (i, &b) in s.iter().enumerate() {
+        if 0 < i {
+            print(rt, b" ")?;
+        }
+        print_hex(rt, u32::from(b), 2)?;
     }
     Ok(())
 }
 
-pub fn print_character(rt: &impl Print, c: Character) -> io::Result<()> {
-    match c {
-        Character::Char(value, width, units) => {
+// What `utf8::read_char` answers.
+pub fn print_character(
+    rt: &impl Print,
+    read: Result<Option<NextChar>, Malformed>,
+) -> io::Result<()> {
+    match read {
+        Ok(Some(c)) => {
             print(rt, b"char U+")?;
-            print_hex(rt, value, 4)?;
+            print_hex(rt, c.value, 4)?;
             print(rt, b", ")?;
-            print_number_of(rt, width, b"byte")?;
+            print_number_of(rt, c.width, b"byte")?;
             print(rt, b", ")?;
-            print_number_of(rt, units, b"unit")?;
+            print_number_of(rt, c.units, b"unit")
         }
-        Character::Malformed => {
-            print(rt, b"malformed")?;
-        }
-        Character::End => {
-            print(rt, b"end")?;
-        }
+        Ok(None) => print(rt, b"end"),
+        Err(Malformed) => print(rt, b"malformed"),
     }
-    Ok(())
 }

@@ -4,7 +4,6 @@ ghost use Rattle.std.specs.Prelude.{◌<◌, ◌≤◌, length};
 use crate::output::{print_bytes, print_character, print_number_of};
 use cases::output::{print, print_decimal};
 use std::io;
-use utf8::CharCount;
 
 // The first character of a text.
 fn print_first(rt: &impl Print, s: &[u8]) -> io::Result<()> {
@@ -78,13 +77,11 @@ fn print_followed(rt: &impl Print, text: &mut [u8], cut: usize, after: u8) -> io
 fn print_cuts(rt: &impl Print, character: &[u8], text: &mut [u8]) -> io::Result<()>
     requires { length character.now ≤ length text.old }
 {
-    let mut cut = 0;
-    while cut < character.len() {
+    for (cut, &b) in character.iter().enumerate() {
         print_first(rt, &character[..cut])?;
         print_followed(rt, text, cut, 0x41)?;
         print_followed(rt, text, cut, 0xC3)?;
-        text[cut] = character[cut];
-        cut += 1;
+        text[cut] = b;
     }
     print_first(rt, character)
 }
@@ -116,8 +113,8 @@ fn print_count(rt: &impl Print, s: &[u8]) -> io::Result<()> {
     print_bytes(rt, s)?;
     print(rt, b": ")?;
     match utf8::char_count(s) {
-        CharCount::Chars(n) => print_number_of(rt, n, b"character")?,
-        CharCount::Malformed => print(rt, b"malformed")?,
+        Ok(n) => print_number_of(rt, n, b"character")?,
+        Err(_) => print(rt, b"malformed")?,
     }
     print(rt, b"\n")
 }

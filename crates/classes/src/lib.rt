@@ -1,6 +1,7 @@
 //! The classes of characters that loads and cuts go by (lib.rs; the connectors from hmm.rs). A character is its code point, and each
 //! class is decided by a match over the code points that document 01 lists, for Han with those of document 02's note 9. Every number
 //! is accepted, code point or not.
+// Kept: document 01 names the form, a `match` over the code-point ranges.
 #![tactic(auto)]
 
 ghost use Rattle.std.specs.Prelude.{◌≡◌, not};

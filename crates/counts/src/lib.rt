@@ -8,22 +8,22 @@ ghost use Rattle.trie.specs.SlotCounts.{most_slots};
 ghost use Rattle.book.specs.Returns.{longest_text, greatest_total, greatest_next};
 ghost use Rattle.book.specs.Enter.{replace_by, insert_by};
 
-use book::{Decision, Head, Outcome};
+use book::{Entering, Head, Refusal};
 
 // How a word that is held enters, by the total, its record's old frequency and that record.
-pub fn decide_held(total: u64, old: u32, n: usize, frequency: u64) -> Decision
+pub fn decide_held(total: u64, old: u32, n: usize, frequency: u64) -> Result<Entering, Refusal>
     requires { (total ≤ greatest_total) × (frequency ≤ greatest_total) }
     ensures { result ≡ replace_by total old n frequency }
 {
     let old = old as u64;
     if total < old {
-        return Decision::Refuse(Outcome::Damaged);
+        return Err(Refusal::Damaged);
     }
     let new = total - old + frequency;
     if book::GREATEST_TOTAL < new {
-        return Decision::Refuse(Outcome::TotalTooLarge);
+        return Err(Refusal::TotalTooLarge);
     }
-    Decision::Replace(n, new)
+    Ok(Entering::Replace(n, new))
 }
 
 // How a new word enters that takes so many slots and nodes.
@@ -34,7 +34,7 @@ pub fn decide_new(
     slots: u64,
     nodes: u64,
     frequency: u64,
-) -> Decision
+) -> Result<Entering, Refusal>
     requires table_len_bound { (length table.now / 2 ≤ most_slots) × (head.slots ≤ length table.now / 2) × (length table.now % 2 ≡ 0) }
     requires total_le_greatest_total { (head.total ≤ greatest_total) × (head.next ≤ greatest_next) × (frequency ≤ greatest_total) }
     requires slots_le_longest_text { (slots ≤ longest_text) × (nodes ≤ longest_text) }
@@ -42,20 +42,20 @@ pub fn decide_new(
 {
     let total = head.total + frequency;
     if book::GREATEST_TOTAL < total {
-        return Decision::Refuse(Outcome::TotalTooLarge);
+        return Err(Refusal::TotalTooLarge);
     }
     if records::no_record(head, records) {
-        return Decision::Refuse(Outcome::RecordsFull);
+        return Err(Refusal::RecordsFull);
     }
     let most = table.len() / 2;
     if most as u64 * 6 < (head.slots + slots) * 8 {
-        return Decision::Refuse(Outcome::SlotsFull);
+        return Err(Refusal::SlotsFull);
     }
     if !empties::has_empty(table, empties::search_start(head.next, most), slots) {
-        return Decision::Refuse(Outcome::Damaged);
+        return Err(Refusal::Damaged);
     }
     if book::GREATEST_NEXT < head.next + nodes {
-        return Decision::Refuse(Outcome::Damaged);
+        return Err(Refusal::Damaged);
     }
-    Decision::Insert(slots, nodes, total)
+    Ok(Entering::Insert(slots, nodes, total))
 }

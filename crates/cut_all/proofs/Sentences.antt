@@ -1,6 +1,7 @@
 -- A sentence that is cut: what `cut_all` learns from the outcome of the tests before the cut. If they are not done it is what `cut_all` answers. If they are,
 -- the book and the slices are as `cut_all_blocks` requires them, and the blocks of the sentence's characters are what `cut_all` answers.
 -- Assumes nothing.
+use Rattle.std.specs.Prelude.{Result, Ok}
 use Prim.Native.Nat.{ℕ, ◌-◌, ◌/◌, ◌≤◌, ◌<◌}
 use mathlib.Core.Bool.{true, false}
 use mathlib.Core.List.{List}
@@ -13,12 +14,10 @@ use Rattle.trie.specs.Trie.{SlotCount, SlotTable, log2, trie_of}
 use Rattle.utf8.specs.Text.{chars_of}
 use Rattle.classes.specs.Blocks.{cut_all_class}
 use Rattle.book.specs.declared.Head.{Head}
-use Rattle.book.specs.declared.Outcome.{Outcome}
-use Rattle.book.specs.declared.Outcome.TheVariants.{Done}
-use Rattle.book.specs.Returns.{Book, is_done, longest_text}
+use Rattle.book.specs.Returns.{Book, is_done, longest_text, Outcome}
 use Rattle.book.specs.Areas.{book_of}
 use Rattle.book.proofs.Areas.{slots_allowed, slot_table}
-use Rattle.cuts.specs.declared.Cut.{Cut}
+use Rattle.cuts.specs.declared.CutError.{CutError}
 use Rattle.cuts.specs.Blocks.{blocks_of}
 use Rattle.cuts.specs.Slices.{SeenAs, shorter}
 use Rattle.cuts.specs.Edges.{vocabulary_of}
@@ -41,18 +40,18 @@ by_sizes head roots slots records logarithms = tested_sizes head (length roots) 
 pub record Tests (head : Head) (roots slots records : List ℕ) (logarithms : List Float)
     (sentence chars offsets tokens : List ℕ) (outcome : Outcome) : Type 0 where
   pub same : answer outcome (written 0 tokens)
-      ≡ cut_with (by_sizes head roots slots records logarithms) (work_of chars offsets) tokens (λ cs. answer Done) sentence
+      ≡ cut_with (by_sizes head roots slots records logarithms) (work_of chars offsets) tokens (λ cs. answer (Ok tt)) sentence
 
 -- `begin` makes them, with a work area as long as the shorter of its slices
 pub tested : (head : Head) (roots slots records : List ℕ) (logarithms : List Float)
     (sentence chars offsets tokens : List ℕ) (work : ℕ) (outcome : Outcome)
     → work ≡ shorter (length chars) (length offsets)
     → answer outcome (written 0 tokens)
-    ≡ cut_with (by_sizes head roots slots records logarithms) work tokens (λ cs. answer Done) sentence
+    ≡ cut_with (by_sizes head roots slots records logarithms) work tokens (λ cs. answer (Ok tt)) sentence
     → Tests head roots slots records logarithms sentence chars offsets tokens outcome
 tested head roots slots records logarithms sentence chars offsets tokens work outcome shortest tests =
     record {
-      same = tests ∙ ap (λ (k : ℕ). cut_with (by_sizes head roots slots records logarithms) k tokens (λ cs. answer Done) sentence) shortest;
+      same = tests ∙ ap (λ (k : ℕ). cut_with (by_sizes head roots slots records logarithms) k tokens (λ cs. answer (Ok tt)) sentence) shortest;
     }
 
 module _ {head : Head} {roots slots records : List ℕ} {logarithms : List Float}
@@ -108,7 +107,7 @@ module _ {head : Head} {roots slots records : List ℕ} {logarithms : List Float
     room_offsets = rw text (omega (arith, found.room, shorter_second (length chars) (length offsets)))
 
     -- what `cut_all_blocks` answers, in whatever book has these tables, is what `cut_all` answers
-    pub is_cut : (r : Cut) (after : List ℕ)
+    pub is_cut : (r : Result ℕ CutError) (after : List ℕ)
         → ((b : Book) → SeenAs b (trie_of roots slots) head.records
         → cut_answer r after ≡ cut_blocks (cut_all_block (vocabulary_of b)) start (blocks_of cut_all_class (text_from sentence 0)) (written 0 tokens))
         → cut_answer r after ≡ cut_all_of book (work_of chars offsets) tokens sentence

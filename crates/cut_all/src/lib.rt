@@ -11,7 +11,7 @@ ghost use Rattle.cuts.specs.Cuts.{cut_answer, tested_book, begins, cut_all_of};
 ghost use Rattle.cut_all.specs.Areas.{work_of};
 
 use book::Head;
-use cuts::Cut;
+use cuts::CutError;
 
 // Cuts a sentence into all possible words.
 pub fn cut_all(
@@ -24,14 +24,14 @@ pub fn cut_all(
     chars: &mut [u32],
     offsets: &mut [u64],
     tokens: &mut [u32],
-) -> Cut
+) -> Result<usize, CutError>
     ensures tokens_value { cut_answer result tokens.new
         ≡ cut_all_of (book_in head roots.now slots.now records.now logarithms.now) (work_of chars.old offsets.old) tokens.old sentence.now }
     ensures unchanged { begins (tested_book (book_in head roots.now slots.now records.now logarithms.now)) (work_of chars.old offsets.old) tokens.old sentence.now ≡ false
         → Unchanged chars.old chars.new × Unchanged offsets.old offsets.new }
 {
     let work = sentence::shorter(chars.len(), offsets.len());
-    let tested = sentence::begin(
+    sentence::begin(
         head,
         records.len(),
         logarithms.len(),
@@ -40,13 +40,8 @@ pub fn cut_all(
         sentence,
         work,
         tokens.len(),
-    );
-    if !book::is_done(tested) {
-        return Cut {
-            outcome: tested,
-            count: 0,
-        };
-    }
+    )
+    .map_err(|refusal| CutError { refusal, count: 0 })?;
     cut_all_blocks::cut_all_blocks(
         roots,
         slots,

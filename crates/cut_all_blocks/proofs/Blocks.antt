@@ -1,6 +1,7 @@
 -- The blocks of a sentence, one after the other: the loop of `cut_all_blocks`. It is `splitter`'s, with `cut_all_block` for a block and the class of `cut_all`.
 -- A block is cut by one of two calls, as it is of the class or not; each comes to `cut_all_block`. The slices stay as long as they were.
 -- Assumes nothing.
+use Rattle.std.specs.Prelude.{Result}
 use Prim.Native.Nat.{ℕ, ◌≤◌}
 use mathlib.Core.Bool.{Bool, true, false}
 use mathlib.Core.List.{List}
@@ -12,7 +13,7 @@ use Rattle.utf8.specs.Text.{chars_of}
 use Rattle.classes.specs.Blocks.{cut_all_class}
 use Rattle.book.specs.Returns.{Book, longest_text}
 use Rattle.book.specs.Prefixes.{words_from}
-use Rattle.cuts.specs.declared.Cut.{Cut}
+use Rattle.cuts.specs.declared.CutError.{CutError}
 use Rattle.cuts.specs.Slices.{SeenAs, block_of, Placed}
 use Rattle.cuts.specs.Edges.{vocabulary_of, walks_of}
 use Rattle.cuts.specs.Tokens.{runs_of, Base, written}
@@ -47,7 +48,7 @@ begins roots slots used s tokens at short some_chars starts = Loop.begins s toke
 -- ---- a block is cut, after so many tokens
 
 pub record BlockCut (roots slots : List ℕ) (used : ℕ)
-    (base : ℕ) (matched : Bool) (cs offsets tokens : List ℕ) (count : ℕ) (cut : Cut) (after : List ℕ) : Type 0 where
+    (base : ℕ) (matched : Bool) (cs offsets tokens : List ℕ) (count : ℕ) (cut : Result ℕ CutError) (after : List ℕ) : Type 0 where
   pub kept : length after ≡ length tokens
   pub same : (b : Book) (place : Base)
       → SeenAs b (trie_of roots slots) used
@@ -55,9 +56,9 @@ pub record BlockCut (roots slots : List ℕ) (used : ℕ)
       → cut_answer cut after ≡ cut_all_block (vocabulary_of b) place (block_of matched cs) (written count tokens)
 
 module _ {roots slots : List ℕ} {used : ℕ}
-    {base : ℕ} {matched : Bool} {cs offsets tokens : List ℕ} {count : ℕ} {cut : Cut} {after : List ℕ} where
+    {base : ℕ} {matched : Bool} {cs offsets tokens : List ℕ} {count : ℕ} {cut : Result ℕ CutError} {after : List ℕ} where
   -- what the call answered is what the code goes on with
-  pub as_answered : {answered : Cut} {left : List ℕ}
+  pub as_answered : {answered : Result ℕ CutError} {left : List ℕ}
       → after ≡ left
       → cut ≡ answered
       → BlockCut roots slots used base matched cs offsets tokens count answered left

@@ -14,9 +14,9 @@ ghost use Rattle.cuts.specs.Tokens.{written};
 ghost use Rattle.cuts.specs.Cuts.{cut_answer, cut_all_block, cut_blocks, start};
 ghost use Rattle.runs.specs.Runs.{text_from};
 
-use book::Outcome;
-use cuts::Cut;
+use cuts::CutError;
 use runs::CharacterClass;
+use trie::{Slots, Tables};
 
 // The blocks of a sentence, one after the other, up to one that is stopped.
 pub fn cut_all_blocks(
@@ -28,7 +28,7 @@ pub fn cut_all_blocks(
     chars: &mut [u32],
     offsets: &mut [u64],
     tokens: &mut [u32],
-) -> Cut
+) -> Result<usize, CutError>
     requires slot_table { SlotTable (length slots.now) shift }
     requires sentence_len_bound { (length sentence.now ≤ longest_text) × IsSome (chars_of sentence.now) }
     requires sentence_in_bounds { (length (text_from sentence.now 0) < length chars.old) × (length (text_from sentence.now 0) < length offsets.old) }
@@ -40,27 +40,26 @@ pub fn cut_all_blocks(
     let mut units: usize = 0;
     let mut base: u32 = 0;
     let mut count: usize = 0;
+    // Kept: each turn goes on behind the run that `next_recording` found, which no `for` counts.
     while splitter::has_next(sentence, at) {
         let run = runs::next_recording(sentence, at, units, CharacterClass::CutAll, chars, offsets);
         let n = run.chars;
         let cut = if run.matched {
-            cut_all_tokens::cut_all_tokens(
-                roots, slots, shift, used, chars, offsets, n, base, tokens, count,
-            )
+            let tables = Tables {
+                roots,
+                slots: Slots {
+                    numbers: slots,
+                    shift,
+                },
+            };
+            cut_all_tokens::cut_all_tokens(tables, used, chars, offsets, n, base, tokens, count)
         } else {
             unmatched::cut_all_unmatched(chars, offsets, n, base, tokens, count)
         };
-        let outcome = cut.outcome;
-        count = cut.count;
-        if !book::is_done(outcome) {
-            return Cut { outcome, count };
-        }
+        count = cut?;
         base += n as u32;
         units = run.units;
         at = splitter::advance(sentence, at, run.end);
     }
-    Cut {
-        outcome: Outcome::Done,
-        count,
-    }
+    Ok(count)
 }

@@ -2,6 +2,7 @@
 -- What is kept at each turn is `Positioned`: the words of the walks from `at` on, put after what is written so far, come to what the words of all walks
 -- come to. A turn writes the words of one walk; if nothing stopped it, the walks from the next position go on behind them.
 -- Assumes nothing.
+use Rattle.std.specs.Prelude.{Result, Ok, Err}
 use Prim.Native.Nat.{ℕ, ◌+◌, ◌≤◌, ◌<◌}
 use mathlib.Core.Bool.{Bool, true, false, cond}
 use mathlib.Core.List.{List, [], ◌∷◌}
@@ -10,28 +11,28 @@ use native.Mathlib.Omega.{arith}
 use lib.ListN.{length, take, drop}
 use lib.Seq.{length-take-le}
 use Rattle.trie.specs.Trie.{trie_of}
-use Rattle.book.specs.declared.Outcome.TheVariants.{Done, Damaged}
-use Rattle.book.specs.Returns.{Book, is_done}
+use Rattle.book.specs.declared.Refusal.TheVariants.{Damaged}
+use Rattle.book.specs.Returns.{Book}
 use Rattle.book.specs.Prefixes.{Walked, words_from}
-use Rattle.cuts.specs.declared.Cut.{Cut}
+use Rattle.cuts.specs.declared.CutError.{CutError}
 use Rattle.cuts.specs.Slices.{SeenAs, Placed}
 use Rattle.cuts.specs.Edges.{walks_of}
 use Rattle.cuts.specs.Tokens.{Base, Written, written}
 use Rattle.cuts.specs.Cuts.{CutAnswer, answer, cut_answer, and_then, put_spans, spans_of, put_walks}
-use Rattle.cuts.proofs.Sequence.{goes_on, stops, then_alike, then_after}
+use Rattle.cuts.proofs.Sequence.{cut_goes_on, cut_stops, then_alike, then_after}
 use Rattle.cuts.proofs.Walks.{no_more_walks, first_walk}
 use Rattle.words_at.specs.Walks.{put_walk}
 
 -- ---- the words of a first walk, and then those of the others
 
 module _ (base : Base) (cs : List ℕ) (at : ℕ) where
-  put_no_walks : (w : Written) → put_walks base cs at w [] ≡ answer Done w
+  put_no_walks : (w : Written) → put_walks base cs at w [] ≡ answer (Ok tt) w
   unfolding put_walks
   put_no_walks w = refl
 
   -- damage stops what comes after a walk
   damage_stops : (damaged : Bool) (v : Written) (next : Written → CutAnswer)
-      → and_then (cond damaged (answer Damaged v) (answer Done v)) next ≡ cond damaged (answer Damaged v) (next v)
+      → and_then (cond damaged (answer (Err Damaged) v) (answer (Ok tt) v)) next ≡ cond damaged (answer (Err Damaged) v) (next v)
   damage_stops true v next = refl
   damage_stops false v next = refl
 
@@ -43,7 +44,7 @@ module _ (base : Base) (cs : List ℕ) (at : ℕ) where
       let spans = put_spans base cs w (spans_of at walk.edges) in
       let rest : Written → CutAnswer = λ v. put_walks base cs (at + 1) v walks in
       sym
-      (then_after spans (λ v. cond walk.damaged (answer Damaged v) (answer Done v)) rest
+      (then_after spans (λ v. cond walk.damaged (answer (Err Damaged) v) (answer (Ok tt) v)) rest
       ∙ then_alike spans _ _ (λ v. damage_stops walk.damaged v rest))
 
 -- ---- the loop
@@ -96,13 +97,13 @@ module _ {roots slots : List ℕ} {used : ℕ} {chars offsets : List ℕ}
       ap (put_walks place cs at (written count tokens)) (sym e) ∙ here.same b place seen known
 
   -- the block ends
-  pub ends_here : n ≤ at → Ensured (answer Done (written count tokens))
+  pub ends_here : n ≤ at → Ensured (answer (Ok tt) (written count tokens))
   ends_here past b place seen known =
       sym (put_no_walks place cs at (written count tokens))
       ∙ comes_to b place seen known [] (no_more_walks (words_from b) at cs (omega (arith, cs_long)))
 
   -- the walk from here, which `words_at` answers with `put`
-  module _ (more : at < n) (put : Cut) (after : List ℕ)
+  module _ (more : at < n) (put : Result ℕ CutError) (after : List ℕ)
       (walked : (b : Book) (place : Base) → Seen b → Placed place base cs offsets
       → cut_answer put after ≡ put_walk place cs at (written count tokens) (words_from b at (drop at cs))) where
     -- the walks from the next position on
@@ -120,18 +121,18 @@ module _ {roots slots : List ℕ} {used : ℕ} {chars offsets : List ℕ}
         ∙ comes_to b place seen known _ (first_walk (words_from b) at cs (omega (arith, cs_long)))
 
     -- the walk is stopped
-    pub ends_stopped : is_done put.outcome ≡ false → Ensured (cut_answer put after)
+    pub ends_stopped : {e : CutError} → put ≡ Err e → Ensured (cut_answer (Err e) after)
     ends_stopped other b place seen known =
-        sym (stops (cut_answer put after) (λ v. put_walks place cs (at + 1) v (rest b)) other) ∙ with_rest b place seen known
+        sym (cut_stops after (λ v. put_walks place cs (at + 1) v (rest b)) other) ∙ with_rest b place seen known
 
     -- its words are written
-    pub goes_behind : is_done put.outcome ≡ true
+    pub goes_behind : {m : ℕ} → put ≡ Ok m
         → length after ≡ length tokens
-        → Positioned roots slots used chars offsets n base tokens₀ count₀ after put.count (at + 1)
+        → Positioned roots slots used chars offsets n base tokens₀ count₀ after m (at + 1)
     goes_behind done kept =
         record {
           last = omega arith;
           long = kept ∙ here.long;
           same = λ b place seen known.
-              sym (goes_on (cut_answer put after) (λ v. put_walks place cs (at + 1) v (rest b)) done) ∙ with_rest b place seen known;
+              sym (cut_goes_on after (λ v. put_walks place cs (at + 1) v (rest b)) done) ∙ with_rest b place seen known;
         }

@@ -6,20 +6,18 @@
 //! SLOTS NEXT TOTAL` stores a head. The first letter tells them apart.
 //!
 //! What is lent holds sevens at first, so that the places that stay show.
-ghost use Rattle.std.specs.Prelude.{◌≤◌};
-
 use crate::{kept, line};
 use book::Head;
 use cases::output::{print, print_command};
 use cases::script;
-use cuts::{Cut, TokenizeMode};
+use cuts::{CutError, TokenizeMode};
 use std::io;
 
 // The line of a cut into words, with the areas that it leaves.
 fn print_tokenized(
     rt: &impl Print,
     command: &[u8],
-    answer: Cut,
+    answer: Result<usize, CutError>,
     head: Head,
     records: usize,
     slots: usize,
@@ -51,12 +49,12 @@ fn print_tokenized(
         head,
         records,
         slots,
-        b"work and edges",
+        "work and edges",
         unchanged,
     )
 }
 
-// Cuts in the areas that are lent, and prints the line. The sentence starts at a field of the command.
+// Cuts in the areas that are lent, and prints the line.
 fn tokenize_in(
     rt: &impl Print,
     head: Head,
@@ -65,7 +63,7 @@ fn tokenize_in(
     records: &[u64],
     logarithms: &[f64],
     command: &[u8],
-    field: u64,
+    sentence: &[u8],
     mode: TokenizeMode,
     chars: &mut [u32],
     offsets: &mut [u64],
@@ -83,7 +81,7 @@ fn tokenize_in(
         slots,
         records,
         logarithms,
-        script::rest(command, field),
+        sentence,
         mode,
         chars,
         offsets,
@@ -114,7 +112,15 @@ fn tokenize_in(
     )
 }
 
-// `cut` and `find`, and `slices` whose lengths stand apart, each in a field of its own.
+// The fields of a command that have the lengths of the nine slices, and the one where the sentence starts.
+type Fields = [usize; 10];
+
+// Six slices of one length, and two of another.
+const TOGETHER: Fields = [1, 1, 1, 1, 1, 1, 2, 2, 3, 4];
+
+const APART: Fields = [1, 2, 3, 4, 5, 6, 7, 8, 9, 10];
+
+// `cut`, `find` and `slices`
 fn tokenize(
     rt: &impl Print,
     head: Head,
@@ -123,20 +129,18 @@ fn tokenize(
     records: &[u64],
     logarithms: &[f64],
     command: &[u8],
-    apart: u64,
+    fields: Fields,
     mode: TokenizeMode,
-) -> io::Result<()>
-    requires { apart ≤ 1 }
-{
-    let chars = script::length(command, 1, 64);
-    let offsets = script::length(command, 1 + apart, 64);
-    let starts = script::length(command, 1 + 2 * apart, 64);
-    let scores = script::length(command, 1 + 3 * apart, 64);
-    let ends = script::length(command, 1 + 4 * apart, 64);
-    let route_records = script::length(command, 1 + 5 * apart, 64);
-    let edge_ends = script::length(command, 2 + 5 * apart, 64);
-    let edge_records = script::length(command, 2 + 6 * apart, 64);
-    let tokens = script::length(command, 3 + 6 * apart, 384);
+) -> io::Result<()> {
+    let chars = script::length(command, fields[0], 64);
+    let offsets = script::length(command, fields[1], 64);
+    let starts = script::length(command, fields[2], 64);
+    let scores = script::length(command, fields[3], 64);
+    let ends = script::length(command, fields[4], 64);
+    let route_records = script::length(command, fields[5], 64);
+    let edge_ends = script::length(command, fields[6], 64);
+    let edge_records = script::length(command, fields[7], 64);
+    let tokens = script::length(command, fields[8], 384);
     let mut char_area = [7u32; 64];
     let mut offset_area = [7u64; 64];
     let mut start_area = [7usize; 64];
@@ -154,7 +158,7 @@ fn tokenize(
         records,
         logarithms,
         command,
-        4 + 6 * apart,
+        script::rest(command, fields[9]),
         mode,
         &mut char_area[..chars],
         &mut offset_area[..offsets],
@@ -192,7 +196,7 @@ fn cut_all_in(
         offsets,
         tokens,
     );
-    let unchanged = kept::is_sevens(chars) & kept::is_sevens_u64(offsets);
+    let unchanged = kept::holds_only(chars, 7) && kept::holds_only(offsets, 7);
     line::print_answer(
         rt,
         command,
@@ -201,7 +205,7 @@ fn cut_all_in(
         head,
         records.len(),
         slots.len() / 2,
-        b"work",
+        "work",
         unchanged,
     )
 }
@@ -248,21 +252,6 @@ fn stored_head(rt: &impl Print, command: &[u8]) -> io::Result<Head> {
     })
 }
 
-// 1 where each slice has a field of its own, else 0.
-fn apart(name: u8) -> u64
-    ensures { result ≤ 1 }
-{
-    if name == b's' { 1 } else { 0 }
-}
-
-fn mode(name: u8) -> TokenizeMode {
-    if name == b'f' {
-        TokenizeMode::Search
-    } else {
-        TokenizeMode::Default
-    }
-}
-
 // Plays one command. The answer is the head for the next one.
 fn turn(
     rt: &impl Print,
@@ -273,24 +262,18 @@ fn turn(
     logarithms: &[f64],
     command: &[u8],
 ) -> io::Result<Head> {
-    let name = script::name(command);
-    if name == b'h' {
-        return stored_head(rt, command);
-    }
-    if name == b'a' {
-        cut_all(rt, head, roots, slots, records, logarithms, command)?;
-        return Ok(head);
-    }
+    let (fields, mode) = match command {
+        [b'h', ..] => return stored_head(rt, command),
+        [b'a', ..] => {
+            cut_all(rt, head, roots, slots, records, logarithms, command)?;
+            return Ok(head);
+        }
+        [b'f', ..] => (TOGETHER, TokenizeMode::Search),
+        [b's', ..] => (APART, TokenizeMode::Default),
+        _ => (TOGETHER, TokenizeMode::Default),
+    };
     tokenize(
-        rt,
-        head,
-        roots,
-        slots,
-        records,
-        logarithms,
-        command,
-        apart(name),
-        mode(name),
+        rt, head, roots, slots, records, logarithms, command, fields, mode,
     )?;
     Ok(head)
 }
@@ -306,12 +289,8 @@ pub fn play(
     cuts: &[u8],
 ) -> io::Result<()> {
     let mut head = head;
-    let mut at: usize = 0;
-    while at < cuts.len() {
-        let end = script::find(cuts, at, b';');
-        let next = script::next_command(cuts, at);
-        head = turn(rt, head, roots, slots, records, logarithms, &cuts[at..end])?;
-        at = next;
+    for command in script::commands(cuts) {
+        head = turn(rt, head, roots, slots, records, logarithms, command)?;
     }
     Ok(())
 }

@@ -1,49 +1,7 @@
 //! Whether areas that held sevens still hold nothing else.
 
-// Of 32-bit numbers.
-pub fn is_sevens(s: &[u32]) -> bool {
-    let mut i = 0;
-    while i < s.len() {
-        if s[i] != 7 {
-            return false;
-        }
-        i += 1;
-    }
-    true
-}
-
-// Of 64-bit numbers.
-pub fn is_sevens_u64(s: &[u64]) -> bool {
-    let mut i = 0;
-    while i < s.len() {
-        if s[i] != 7 {
-            return false;
-        }
-        i += 1;
-    }
-    true
-}
-
-fn is_sevens_usize(s: &[usize]) -> bool {
-    let mut i = 0;
-    while i < s.len() {
-        if s[i] != 7 {
-            return false;
-        }
-        i += 1;
-    }
-    true
-}
-
-fn is_sevens_f64(s: &[f64]) -> bool {
-    let mut i = 0;
-    while i < s.len() {
-        if s[i] != 7.0 {
-            return false;
-        }
-        i += 1;
-    }
-    true
+pub fn holds_only<T: PartialEq + Copy>(s: &[T], value: T) -> bool {
+    s.iter().all(|x| *x == value)
 }
 
 // Of a work area and an edge area.
@@ -57,12 +15,12 @@ pub fn are_sevens(
     edge_ends: &[u32],
     edge_records: &[u32],
 ) -> bool {
-    is_sevens(chars)
-        & is_sevens_u64(offsets)
-        & is_sevens_usize(starts)
-        & is_sevens_f64(scores)
-        & is_sevens(ends)
-        & is_sevens(route_records)
-        & is_sevens(edge_ends)
-        & is_sevens(edge_records)
+    holds_only(chars, 7)
+        && holds_only(offsets, 7)
+        && holds_only(starts, 7)
+        && holds_only(scores, 7.0)
+        && holds_only(ends, 7)
+        && holds_only(route_records, 7)
+        && holds_only(edge_ends, 7)
+        && holds_only(edge_records, 7)
 }

@@ -1,24 +1,22 @@
 //! A case is played: a book is prepared and loaded in areas of the given lengths, changed by stores, and then cut with. The areas
 //! hold sevens at first. The parts of a case are the heading, the lengths, the dictionary, the stores and the cuts.
 use crate::stores;
-use book::{Head, Prepared};
-use cases::output::{print, print_next};
+use book::{Head, LoadError, Refusal};
+use cases::output::print;
 use cases::{areas, output, script};
 use cut_cases::cutting;
-use load_lines::Loaded;
 use std::io;
 
 // Prints what `prepare` answered. Where there is no book the head is zeros.
-fn prepared(rt: &impl Print, answer: Prepared) -> io::Result<Head> {
+fn prepared(rt: &impl Print, answer: Result<Head, Refusal>) -> io::Result<Head> {
     print(rt, b"prepare:")?;
     match answer {
-        Prepared::Ready(head) => {
+        Ok(head) => {
             print(rt, b" 0\n")?;
             Ok(head)
         }
-        Prepared::Refused(outcome) => {
-            print_next(rt, book::number_of(outcome) as u64)?;
-            print(rt, b"\n")?;
+        Err(refusal) => {
+            println!(rt; " {}", book::number_of(Err(refusal)))?;
             Ok(Head {
                 records: 0,
                 slots: 0,
@@ -29,19 +27,25 @@ fn prepared(rt: &impl Print, answer: Prepared) -> io::Result<Head> {
     }
 }
 
-// Prints what `load_dict` answered.
-fn loaded(rt: &impl Print, dictionary: &[u8], answer: Loaded) -> io::Result<Head> {
-    let outcome = answer.outcome;
-    let head = answer.head;
+// Prints what `load_dict` answered, and the head that it left.
+fn loaded(
+    rt: &impl Print,
+    dictionary: &[u8],
+    answer: Result<usize, LoadError>,
+    head: Head,
+) -> io::Result<()> {
     print(rt, b"load ")?;
     output::print_command(rt, dictionary)?;
-    print(rt, b":")?;
-    print_next(rt, book::number_of(outcome) as u64)?;
-    print(rt, b", line")?;
-    print_next(rt, answer.line as u64)?;
-    output::print_head(rt, head.records, head.slots, head.next, head.total)?;
-    print(rt, b"\n")?;
-    Ok(head)
+    match answer {
+        Ok(lines) => print!(rt; ": 0, line {lines}")?,
+        Err(LoadError { refusal, line }) => {
+            print!(rt; ": {}, line {line}", book::number_of(Err(refusal)))?
+        }
+    }
+    println!(rt;
+        "; head {} {} {} {}",
+        head.records, head.slots, head.next, head.total
+    )
 }
 
 // Changes a book that is loaded by the stores, and cuts with it.
@@ -56,9 +60,7 @@ fn play_loaded(
 ) -> io::Result<()> {
     let stores = script::part(case, 3);
     stores::print_stores(rt, stores)?;
-    stores::play_on_root(roots, stores);
-    stores::play_on_slots(slots, stores);
-    stores::play_on_records(logarithms, stores);
+    stores::play(roots, slots, logarithms, stores);
     cutting::play(
         rt,
         head,
@@ -81,8 +83,9 @@ fn play_prepared(
     case: &[u8],
 ) -> io::Result<()> {
     let dictionary = script::part(case, 2);
-    let answer = dict::load_dict(head, roots, slots, records, logarithms, dictionary);
-    let head = loaded(rt, dictionary, answer)?;
+    let mut head = head;
+    let answer = dict::load_dict(&mut head, roots, slots, records, logarithms, dictionary);
+    loaded(rt, dictionary, answer, head)?;
     play_loaded(rt, head, roots, slots, records, logarithms, case)
 }
 

@@ -13,25 +13,22 @@ ghost use Rattle.cuts.specs.Cuts.{cut_answer, put_spans};
 ghost use Rattle.search_words.specs.Rising.{EndsRise};
 ghost use Rattle.cut_route.specs.Routes.{Forward, HasEnds, letter_run, token_by, tokens_by};
 
-use book::Outcome;
-use cuts::{Cut, TokenizeMode};
+use cuts::{CutError, TokenizeMode};
 
 // The end of the run of route steps of one ASCII letter or digit that goes on at a position.
 fn letters_end(chars: &[u32], ends: &[u32], n: usize, from: usize) -> usize
     requires { (from ≤ n) × (n ≤ length chars.now) × (n ≤ length ends.now) }
     ensures { letter_run chars.now ends.now n from result }
 {
-    let mut y = from;
-    while y < n {
+    for y in from..n {
         if ends[y] as usize != y + 1 {
-            break;
+            return y;
         }
         if !classes::is_ascii_alphanumeric(chars[y]) {
-            break;
+            return y;
         }
-        y += 1;
     }
-    y
+    n
 }
 
 // Writes what the token from x up to y brings.
@@ -46,7 +43,7 @@ fn emit_token(
     y: usize,
     tokens: &mut [u32],
     count: usize,
-) -> Cut
+) -> Result<usize, CutError>
     requires x_le_y { (x ≤ y) × (y ≤ length chars.now) × (y < length offsets.now) × (y < length starts.now) × (base + y ≤ longest_text) }
     requires ends_rise { EndsRise starts.now edge_ends.now y }
     ensures { (place : Base) (n : ℕ) (records : List ℕ) (logarithms : List Float) → y ≤ n → Placed place base (take n chars.now) offsets.now
@@ -73,7 +70,7 @@ pub fn cut_route(
     base: u32,
     tokens: &mut [u32],
     count: usize,
-) -> Cut
+) -> Result<usize, CutError>
     requires n_in_bounds { (n ≤ length chars.now) × (n < length offsets.now) × (n < length starts.now) × (n ≤ length ends.now) × (base + n ≤ longest_text) }
     requires forward { Forward n ends.now × EndsRise starts.now edge_ends.now n }
     ensures { (place : Base) (route : List Best) (records : List ℕ) (logarithms : List Float)
@@ -83,6 +80,7 @@ pub fn cut_route(
 {
     let mut count = count;
     let mut x: usize = 0;
+    // Kept: each turn goes on where the token ends, by the route and `letters_end`, which no `for` counts.
     while x < n {
         let mut y = ends[x] as usize;
         if y == x + 1 {
@@ -90,18 +88,10 @@ pub fn cut_route(
                 y = letters_end(chars, ends, n, y);
             }
         }
-        let put = emit_token(
+        count = emit_token(
             mode, chars, offsets, starts, edge_ends, base, x, y, tokens, count,
-        );
-        let outcome = put.outcome;
-        count = put.count;
-        if !book::is_done(outcome) {
-            return Cut { outcome, count };
-        }
+        )?;
         x = y;
     }
-    Cut {
-        outcome: Outcome::Done,
-        count,
-    }
+    Ok(count)
 }

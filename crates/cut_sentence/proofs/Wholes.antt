@@ -1,5 +1,6 @@
 -- A cut whole: what the tests before it say, and the blocks of the sentence after them.
 -- Assumes nothing.
+use Rattle.std.specs.Prelude.{Ok}
 use mathlib.Core.Path.{◌≡◌, sym, ap, ◌∙◌}
 use mathlib.Core.Bool.{true, false}
 use mathlib.Core.List.{List}
@@ -10,9 +11,7 @@ use lib.Ieee.{Float}
 use lib.ListN.{length}
 use Rattle.utf8.specs.Text.{chars_of}
 use Rattle.classes.specs.Blocks.{cut_class}
-use Rattle.book.specs.declared.Outcome.{Outcome}
-use Rattle.book.specs.declared.Outcome.TheVariants.{Done}
-use Rattle.book.specs.Returns.{Book, is_done}
+use Rattle.book.specs.Returns.{Book, is_done, Outcome}
 use Rattle.cuts.specs.declared.TokenizeMode.{TokenizeMode}
 use Rattle.cuts.specs.declared.TokenizeMode.TheVariants.{Default, Search}
 use Rattle.cuts.specs.Blocks.{blocks_of}
@@ -36,7 +35,7 @@ by_blocks Search b t of_book work room tokens sentence = rw of_book
 
 -- with the tests of a book, as they are made
 module _ (mode : TokenizeMode) (b : Book) (t : Tested) (of_book : t ≡ tested_book b) (work room : ℕ) (tokens sentence : List ℕ) (o : Outcome)
-    (tests : answer o (written 0 tokens) ≡ cut_with t work tokens (λ cs. answer Done) sentence) where
+    (tests : answer o (written 0 tokens) ≡ cut_with t work tokens (λ cs. answer (Ok tt)) sentence) where
   cut_begun : is_done o ≡ true → Begun t work tokens sentence
   cut_begun done = begun t work tokens sentence o tests done
 

@@ -9,7 +9,7 @@ ghost use Rattle.cut_sentence.specs.Areas.{work_of, room_of};
 
 use block::Plan;
 use book::Head;
-use cuts::{Cut, TokenizeMode};
+use cuts::{CutError, TokenizeMode};
 
 // Cuts a sentence by a mode, with so many places of the work area and of the edge area. Three calls have it in common, so that it
 // is called and not inlined, and each slice costs a place and a length. It takes the two numbers of places: then the lengths of
@@ -33,7 +33,7 @@ pub fn cut_sentence(
     edge_records: &mut [u32],
     room: usize,
     tokens: &mut [u32],
-) -> Cut
+) -> Result<usize, CutError>
     requires { (work ≤ work_of chars.old offsets.old starts.old scores.old ends.old route_records.old)
         × (room ≤ room_of edge_ends.old edge_records.old) }
     ensures tokens_value { cut_answer result tokens.new
@@ -48,7 +48,7 @@ pub fn cut_sentence(
     let slots = &*slots;
     let logarithms = &*logarithms;
     let sentence = &*sentence;
-    let tested = sentence::begin(
+    sentence::begin(
         head,
         records.len(),
         logarithms.len(),
@@ -57,13 +57,8 @@ pub fn cut_sentence(
         sentence,
         work,
         tokens.len(),
-    );
-    if !book::is_done(tested) {
-        return Cut {
-            outcome: tested,
-            count: 0,
-        };
-    }
+    )
+    .map_err(|refusal| CutError { refusal, count: 0 })?;
     blocks::cut_blocks(
         roots,
         slots,

@@ -9,8 +9,6 @@
 
 mod input;
 
-use book::Prepared;
-
 // The sizes of the book.
 const ROOT_ENTRIES: usize = 256;
 
@@ -24,21 +22,21 @@ fn main(rt: HostRuntime) {
     let mut slots = [0u64; 2 * SLOTS];
     let mut records = [0u64; RECORDS];
     let mut logarithms = [0.0f64; RECORDS];
-    let Prepared::Ready(head) = prepare::prepare(
-        &mut roots,
-        &mut slots,
-        &mut records,
-        &mut logarithms,
-    ) else {
+    let Ok(mut head) = prepare::prepare(&mut roots, &mut slots, &mut records, &mut logarithms)
+    else {
         return;
     };
-    input::answer_all(
+    let answered = input::answer_all(
         &rt,
         &mut rt.stdin(),
-        head,
+        &mut head,
         &mut roots,
         &mut slots,
         &mut records,
         &mut logarithms,
     );
+    if let Err(failure) = answered {
+        // Where that cannot be written either, nothing is left to do.
+        let _ = eprintln!(rt; "cutlines: {failure}");
+    }
 }

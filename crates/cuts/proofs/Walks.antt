@@ -10,13 +10,10 @@ use native.Mathlib.Omega.{arith}
 use lib.Ieee.{nan}
 use lib.ListN.{length, get_or, take, drop, drop_of_length-le}
 use lib.Seq.{drop-cons, get_or-take, length-take-le}
+use Rattle.std.specs.Prelude.{Ok, Err, Some, None}
 use Rattle.trie.specs.declared.ParentRef.{ParentRef}
 use Rattle.trie.specs.declared.ParentRef.TheVariants.{Root}
-use Rattle.trie.specs.declared.Step.{Step}
-use Rattle.trie.specs.declared.Step.TheVariants.{At, Nothing, Damaged}
-use Rattle.trie.specs.declared.WordNumber.{WordNumber}
-use Rattle.trie.specs.declared.WordNumber.TheVariants.{NoWord, Record, Bad}
-use Rattle.trie.specs.Trie.{CharTrie, SlotTable, tested_step, word_at, trie_of}
+use Rattle.trie.specs.Trie.{CharTrie, SlotTable, tested_step, word_at, trie_of, Step, WordNumber, damage}
 use Rattle.walk.specs.Walk.{Inside}
 use Rattle.walk.proofs.Places.{starts_inside, leads_tested}
 use Rattle.book.specs.Returns.{Book}
@@ -52,15 +49,15 @@ module _ (b : Book) (p : ParentRef) (next : ℕ) (cs : List ℕ) where
     split : drop next cs ≡ ch ∷ drop (next + 1) cs
     split = drop-cons cs next 0 more ∙ rw (char, add-one next)
 
-    on_nothing : r ≡ Nothing → onward ≡ ended
+    on_nothing : r ≡ Ok None → onward ≡ ended
     unfolding walk_on
     on_nothing e = rw (split, ← step, e, walk_on)
 
-    on_damaged : r ≡ Damaged → onward ≡ broken
+    on_damaged : r ≡ Err damage → onward ≡ broken
     unfolding walk_on
     on_damaged e = rw (split, ← step, e, walk_on)
 
-    module _ (q : ParentRef) (at : r ≡ At q) (number : WordNumber) (read : number ≡ word_at b.head.records b.trie q) where
+    module _ (q : ParentRef) (at : r ≡ Ok (Some q)) (number : WordNumber) (read : number ≡ word_at b.head.records b.trie q) where
       on_word : onward ≡ met_before b number (next + 1) (walk_on b q (next + 1) (drop (next + 1) cs))
       unfolding walk_on
       on_word = rw (split, ← step, at, walk_on, ← read)
@@ -118,15 +115,15 @@ module _ {Wanted : Book → Walked → Type 0}
     step_in b seen = step ∙ ap (λ (t : CharTrie). tested_step t place (get_or chars next 0)) (sym seen.same_trie)
 
     -- no step leads on
-    pub at_nothing : r ≡ Nothing → (b : Book) → Seen b → Wanted b ended
+    pub at_nothing : r ≡ Ok None → (b : Book) → Seen b → Wanted b ended
     at_nothing e b seen = subst (Wanted b) (on_nothing b place next cs _ in_cs char r (step_in b seen) e) (here.wanted b seen)
 
     -- a probe has no end
-    pub at_damage : r ≡ Damaged → (b : Book) → Seen b → Wanted b broken
+    pub at_damage : r ≡ Err damage → (b : Book) → Seen b → Wanted b broken
     at_damage e b seen = subst (Wanted b) (on_damaged b place next cs _ in_cs char r (step_in b seen) e) (here.wanted b seen)
 
     -- the step leads to a place
-    module _ {q : ParentRef} (stepped : r ≡ At q) where
+    module _ {q : ParentRef} (stepped : r ≡ Ok (Some q)) where
       pub next_inside : {shift : ℕ} → SlotTable (length slots) shift → Inside (length roots) (length slots / 2) q
       next_inside {shift} allowed = leads_tested roots slots shift allowed place q (get_or chars next 0) r stepped step
 
@@ -154,14 +151,14 @@ module _ {Wanted : Book → Walked → Type 0}
               (here.wanted b seen)
 
         -- a bad word number
-        pub at_bad : number ≡ Bad → (b : Book) → Seen b → Wanted b broken
+        pub at_bad : number ≡ Err damage → (b : Book) → Seen b → Wanted b broken
         at_bad e b seen = at_number e b seen
 
         -- no word ends there
-        pub past : {shift : ℕ} → SlotTable (length slots) shift → number ≡ NoWord → Walk Wanted roots slots used chars n at q (next + 1)
+        pub past : {shift : ℕ} → SlotTable (length slots) shift → number ≡ Ok None → Walk Wanted roots slots used chars n at q (next + 1)
         past allowed e = on_from allowed (at_number e)
 
         -- a word ends there
-        pub at_word : {k : ℕ} → number ≡ Record k → (b : Book) → Seen b
+        pub at_word : {k : ℕ} → number ≡ Ok (Some k) → (b : Book) → Seen b
             → Wanted b (record { edges = record { end = next + 1; logarithm = get_or b.logarithms k nan } ∷ (rest b).edges; damaged = (rest b).damaged })
         at_word e b seen = at_number e b seen

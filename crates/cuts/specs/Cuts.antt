@@ -1,18 +1,17 @@
 -- The three cuts and the choice by mode: the order of their refusals and of what they write, document 01, "What each call returns" and "Tokens".
 -- Assumes nothing.
-use Rattle.std.specs.Prelude.{ℕ, ◌+◌, ◌%◌, Bool, true, false, cond, ◌&&◌, List, [], ◌∷◌, eqb, leb, ltb, Float, length}
+use Rattle.std.specs.Prelude.{ℕ, ◌+◌, ◌%◌, Bool, true, false, cond, ◌&&◌, List, [], ◌∷◌, eqb, leb, ltb, Float, length, Result, Ok, Err}
 use Rattle.std.proofs.Math.Option.{Option, none, some}
 use Rattle.classes.specs.Blocks.{cut_class, cut_all_class}
 use Rattle.utf8.specs.Encoding.{byte_length}
 use Rattle.utf8.specs.Utf16.{unit_length}
 use Rattle.utf8.specs.Text.{chars_of}
 use Rattle.score.specs.Logarithm.{log_float}
-use Rattle.book.specs.declared.Outcome.{Outcome}
-use Rattle.book.specs.declared.Outcome.TheVariants.{Done, BadAreas, TooLong, Malformed, Damaged, WorkTooShort, TokensFull}
-use Rattle.book.specs.Returns.{Book, is_done, sized, longest_text, damaged_head}
+use Rattle.book.specs.declared.Refusal.TheVariants.{BadAreas, TooLong, Malformed, Damaged, WorkTooShort, TokensFull}
+use Rattle.book.specs.Returns.{Book, is_done, sized, longest_text, damaged_head, Outcome}
 use Rattle.book.specs.Prefixes.{Edge, Walked}
 use Rattle.route.specs.Route.{route_of}
-use Rattle.cuts.specs.declared.Cut.{Cut}
+use Rattle.cuts.specs.declared.CutError.{CutError}
 use Rattle.cuts.specs.Blocks.{Block, blocks_of}
 use Rattle.cuts.specs.declared.TokenizeMode.{TokenizeMode}
 use Rattle.cuts.specs.declared.TokenizeMode.TheVariants.{Default, Search}
@@ -28,8 +27,9 @@ abbrev pub answer : Outcome → Written → CutAnswer
 answer o w = record { outcome = o; written = w }
 
 -- the same from what the code returns, and the token area
-abbrev pub cut_answer : Cut → List ℕ → CutAnswer
-cut_answer r area = answer r.outcome (record { count = r.count; area = area })
+abbrev pub cut_answer : Result ℕ CutError → List ℕ → CutAnswer
+cut_answer (Ok count) area = answer (Ok tt) (written count area)
+cut_answer (Err e) area = answer (Err e.refusal) (written e.count area)
 
 -- then, if nothing stopped it
 abbrev pub and_then : CutAnswer → (Written → CutAnswer) → CutAnswer
@@ -39,9 +39,9 @@ and_then a next = elim (is_done a.outcome) [ true ↦ next a.written | false ↦
 
 -- "11: more tokens than places: the first tokens, all places full"
 unfoldable pub put_spans : Base → List ℕ → Written → List Span → CutAnswer
-put_spans base chars w [] = answer Done w
+put_spans base chars w [] = answer (Ok tt) w
 put_spans base chars w (s ∷ ss) =
-    elim (has_place w) [ true ↦ put_spans base chars (put w (token_of base chars s)) ss | false ↦ answer TokensFull w ]
+    elim (has_place w) [ true ↦ put_spans base chars (put w (token_of base chars s)) ss | false ↦ answer (Err TokensFull) w ]
 
 -- ---- a block
 
@@ -75,10 +75,10 @@ spans_of at [] = []
 spans_of at (e ∷ es) = span at e.end ∷ spans_of at es
 
 unfoldable pub put_walks : Base → List ℕ → ℕ → Written → List Walked → CutAnswer
-put_walks base chars at w [] = answer Done w
+put_walks base chars at w [] = answer (Ok tt) w
 put_walks base chars at w (walk ∷ walks) =
     and_then (put_spans base chars w (spans_of at walk.edges))
-    (λ v. cond walk.damaged (answer Damaged v) (put_walks base chars (at + 1) v walks))
+    (λ v. cond walk.damaged (answer (Err Damaged) v) (put_walks base chars (at + 1) v walks))
 
 unfoldable pub cut_all_block : Vocabulary → Base → Block → Written → CutAnswer
 cut_all_block v base block w =
@@ -96,7 +96,7 @@ behind base cs =
 
 -- "block by block"
 unfoldable pub cut_blocks : (Base → Block → Written → CutAnswer) → Base → List Block → Written → CutAnswer
-cut_blocks one base [] w = answer Done w
+cut_blocks one base [] w = answer (Ok tt) w
 cut_blocks one base (block ∷ blocks) w =
     and_then (one base block w)
     (λ v. cut_blocks one (behind base block.chars) blocks v)
@@ -114,15 +114,15 @@ tested_book b = record { sizes = sized b; damage = damaged_head b }
 
 -- "Cuts: 1, 2, 3, 9, 8 for the head"; 9: "work area shorter than the sentence's characters + 1"; then the blocks
 abbrev pub cut_chars : Tested → ℕ → (List ℕ → Written → CutAnswer) → Written → Option (List ℕ) → CutAnswer
-cut_chars t work cutting w none = answer Malformed w
+cut_chars t work cutting w none = answer (Err Malformed) w
 cut_chars t work cutting w (some cs) =
-    cond (ltb work (length cs + 1)) (answer WorkTooShort w) (cond t.damage (answer Damaged w) (cutting cs w))
+    cond (ltb work (length cs + 1)) (answer (Err WorkTooShort) w) (cond t.damage (answer (Err Damaged) w) (cutting cs w))
 
 unfoldable pub cut_with : Tested → ℕ → List ℕ → (List ℕ → Written → CutAnswer) → List ℕ → CutAnswer
 cut_with t work area cutting sentence =
     cond (t.sizes && eqb (length area % token_width) 0)
-    (cond (leb (length sentence) longest_text) (cut_chars t work cutting (written 0 area) (chars_of sentence)) (answer TooLong (written 0 area)))
-    (answer BadAreas (written 0 area))
+    (cond (leb (length sentence) longest_text) (cut_chars t work cutting (written 0 area) (chars_of sentence)) (answer (Err TooLong) (written 0 area)))
+    (answer (Err BadAreas) (written 0 area))
 
 -- the cuts of a sentence's bytes by what is seen of a book, with a work area and an edge area of the given lengths
 abbrev pub cut_by : Tested → Vocabulary → ℕ → ℕ → List ℕ → List ℕ → CutAnswer
@@ -151,4 +151,4 @@ tokenize_of Search b work room area sentence = cut_for_search_of b work room are
 
 -- whether cutting begins: none of 1, 2, 3, 9 and the head's 8. Until then the work and edge areas are unchanged, "their content is free" after.
 abbrev pub begins : Tested → ℕ → List ℕ → List ℕ → Bool
-begins t work area sentence = is_done (cut_with t work area (λ cs. answer Done) sentence).outcome
+begins t work area sentence = is_done (cut_with t work area (λ cs. answer (Ok tt)) sentence).outcome

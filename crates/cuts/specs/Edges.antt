@@ -1,9 +1,8 @@
 -- A block's edges: document 01, "Edges and route: `StaticSparseDAG`, `calc`", up to the route, which `route/specs/Route.antt` has.
 -- Assumes nothing.
-use Rattle.std.specs.Prelude.{ℕ, ◌+◌, ◌-◌, true, false, List, [], ◌∷◌, ltb, length}
-use Rattle.book.specs.declared.Outcome.{Outcome}
-use Rattle.book.specs.declared.Outcome.TheVariants.{Damaged, EdgesFull}
-use Rattle.book.specs.Returns.{Book}
+use Rattle.std.specs.Prelude.{ℕ, ◌+◌, ◌-◌, true, false, List, [], ◌∷◌, ltb, length, Err}
+use Rattle.book.specs.declared.Refusal.TheVariants.{Damaged, EdgesFull}
+use Rattle.book.specs.Returns.{Book, Outcome}
 use Rattle.book.specs.Prefixes.{Edge, Walked, words_from}
 
 -- what a cut sees of a book: the words that start at a position, before the characters that follow it, and the total
@@ -33,6 +32,6 @@ unfoldable pub edges_within : ℕ → List Walked → Edges
 edges_within room [] = edges []
 edges_within room (w ∷ ws) =
     elim (ltb room (length w.edges)) [
-      | true ↦ stopped EdgesFull
-      | false ↦ elim w.damaged [ true ↦ stopped Damaged | false ↦ before w.edges (edges_within (room - length w.edges) ws) ]
+      | true ↦ stopped (Err EdgesFull)
+      | false ↦ elim w.damaged [ true ↦ stopped (Err Damaged) | false ↦ before w.edges (edges_within (room - length w.edges) ws) ]
     ]

@@ -3,9 +3,8 @@
 -- start and end in characters, in bytes and in UTF-16 code units.
 -- Texts are bytes, with what they read above them. Proof: `proofs/Examples.antt`.
 -- Assumes nothing.
-use Rattle.std.specs.Prelude.{ℕ, ◌/◌, List, [], ◌∷◌, ◌++◌, ◌≡◌, length, replicate}
+use Rattle.std.specs.Prelude.{ℕ, ◌/◌, List, [], ◌∷◌, ◌++◌, ◌≡◌, length, replicate, Ok}
 use Rattle.score.specs.Logarithm.{StarredLogarithms}
-use Rattle.book.specs.declared.Outcome.TheVariants.{Done}
 use Rattle.book.specs.Returns.{Book, empty_book}
 use Rattle.book.specs.Enter.{LoadAnswer, load_answer, load_of}
 use Rattle.cuts.specs.declared.Token.{Token}
@@ -21,11 +20,11 @@ loaded text = (load text).book
 
 -- it is accepted: 0, and so many lines read
 abbrev pub Accepted : List ℕ → ℕ → Type 0
-Accepted text lines = load text ≡ load_answer Done lines (loaded text)
+Accepted text lines = load text ≡ load_answer (Ok tt) lines (loaded text)
 
 -- 0, the tokens' count, and the token area: these numbers
 abbrev pub all_tokens : List ℕ → CutAnswer
-all_tokens numbers = answer Done (record { count = length numbers / token_width; area = numbers })
+all_tokens numbers = answer (Ok tt) (record { count = length numbers / token_width; area = numbers })
 
 -- a token's numbers: character start and end, byte start and end, UTF-16 start and end
 abbrev pub token : ℕ → ℕ → ℕ → ℕ → ℕ → ℕ → List ℕ

@@ -6,7 +6,7 @@
 
 ghost use Rattle.std.specs.Prelude.{◌≡◌, ◌/◌, ◌%◌, ◌^◌};
 
-use book::Outcome;
+use book::Refusal;
 
 // Where a token starts and ends, counted in scalar values.
 #[derive(Clone, Copy)]
@@ -49,10 +49,11 @@ pub fn utf16_offset(place: u64) -> u32
     (place / UTF16_UNIT) as u32
 }
 
-// What a cut answers, of a whole sentence or of a part: its outcome, and the tokens written so far.
-#[derive(Clone, Copy)]
-pub struct Cut {
-    pub outcome: Outcome,
+// What stopped a cut, of a whole sentence or of a part: the refusal, and how many tokens are written. A cut that is done answers
+// that number alone.
+#[derive(Clone, Copy, Debug, PartialEq, Eq)]
+pub struct CutError {
+    pub refusal: Refusal,
     pub count: usize,
 }
 

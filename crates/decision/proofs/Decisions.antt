@@ -7,54 +7,44 @@ use mathlib.Core.Option.{Option, none, some, IsSome}
 use Prim.Native.Nat.{ℕ, suc, ◌≤◌}
 use native.Mathlib.Omega.{arith}
 use lib.ListN.{length}
+use Rattle.std.specs.Prelude.{Result, Ok, Err, Some, None}
 use Rattle.utf8.specs.Text.{chars_of}
 use Rattle.utf8.proofs.Texts.{no_more_than_bytes}
-use Rattle.trie.specs.declared.Got.{Got}
-use Rattle.trie.specs.declared.Got.TheVariants.{Held, Absent}
+use Rattle.trie.specs.declared.Damaged.{Damaged}
 use Rattle.trie.specs.declared.ParentRef.{ParentRef}
 use Rattle.trie.specs.declared.ParentRef.TheVariants.{Root}
-use Rattle.trie.specs.declared.Step.{Step}
-use Rattle.trie.specs.declared.Step.TheVariants.{At, Nothing, Damaged}
-use Rattle.trie.specs.declared.WordNumber.{WordNumber}
-use Rattle.trie.specs.declared.WordNumber.TheVariants.{NoWord, Record, Bad}
-use Rattle.trie.specs.Trie.{CharTrie, open_step, from_root, word_at, Reach, Reached, NoEnd, reach, new_slots, get_of}
+use Rattle.trie.specs.Trie.{CharTrie, open_step, from_root, word_at, Reach, Reached, NoEnd, reach, new_slots, get_of, Step, WordNumber}
 use Rattle.walk.specs.declared.Room.{Room}
-use Rattle.walk.specs.declared.Room.TheVariants.{Whole, Partly}
 use Rattle.walk.specs.Walk.{got_of, new_steps, room_at, room_from, room_of}
-use Rattle.book.specs.declared.Decision.{Decision}
-use Rattle.book.specs.declared.Decision.TheVariants.{Refuse}
-use Rattle.book.specs.declared.Outcome.{Outcome}
+use Rattle.book.specs.declared.Refusal.{Refusal}
 use Rattle.book.specs.Returns.{Book}
-use Rattle.book.specs.Enter.{decide_held, decide_new, decide_reached, decide_absent, decide}
+use Rattle.book.specs.Enter.{decide_held, decide_new, decide_reached, decide_absent, decide, Decision}
 use Rattle.decision.specs.Texts.{absent_text, decide_text}
 
 -- the decision by what a new word finds
-abbrev pub by_room : Book → Room → ℕ → Decision
-by_room b Room.Damaged frequency = Refuse Outcome.Damaged
-by_room b (Whole Bad) frequency = Refuse Outcome.Damaged
-by_room b (Whole NoWord) frequency = decide_new b 0 0 frequency
-by_room b (Whole (Record n)) frequency = decide_new b 0 0 frequency
-by_room b (Partly slots nodes) frequency = decide_new b slots nodes frequency
+abbrev pub by_room : Book → Result Room Damaged → ℕ → Decision
+by_room b (Err d) frequency = Err Refusal.Damaged
+by_room b (Ok room) frequency = decide_new b room.slots room.nodes frequency
 
 by_reach : (b : Book) (r : Reach) (frequency : ℕ) → by_room b (room_at b.head.records b.trie r) frequency ≡ decide_absent b r frequency
-unfolding room_at new_steps
+unfolding room_at new_steps new_slots
 by_reach b NoEnd frequency = refl
 by_reach b (Reached p (c ∷ cs)) frequency = refl
 by_reach b (Reached p []) frequency = go (word_at b.head.records b.trie p)
   where
-    go : (w : WordNumber) → by_room b (Whole w) frequency ≡ decide_reached b p [] w frequency
-    go NoWord = refl
-    go (Record n) = refl
-    go Bad = refl
+    go : (w : WordNumber) → by_room b (elim w [ Ok r ↦ Ok (new_steps b.trie p []) | Err d ↦ Err d ]) frequency ≡ decide_reached b p [] w frequency
+    go (Ok None) = refl
+    go (Ok (Some n)) = refl
+    go (Err d) = refl
 
 by_room_lem : (b : Book) (o : Option (List ℕ)) (frequency : ℕ) → IsSome o → by_room b (room_of b.head.records b.trie o) frequency ≡ absent_text b o frequency
 unfolding absent_text room_from
 by_room_lem b none frequency h = absurd h
 by_room_lem b (some cs) frequency h = by_reach b (reach b.trie Root cs) frequency
 
-pub decided_by_room : (b : Book) (o : Option (List ℕ)) (frequency : ℕ) (r : Room) → IsSome o → r ≡ room_of b.head.records b.trie o
+pub decided_by_room : (b : Book) (o : Option (List ℕ)) (frequency : ℕ) (r : Result Room Damaged) → IsSome o → r ≡ room_of b.head.records b.trie o
     → by_room b r frequency ≡ absent_text b o frequency
-decided_by_room b o frequency r h e = ap (λ (x : Room). by_room b x frequency) e ∙ by_room_lem b o frequency h
+decided_by_room b o frequency r h e = ap (λ (x : Result Room Damaged). by_room b x frequency) e ∙ by_room_lem b o frequency h
 
 -- ---- the steps that a word takes are no more than its bytes
 
@@ -64,9 +54,9 @@ left_over t p q [] rest e = let h : [] ≡ rest = cc in rw (← h) (omega arith)
 left_over t p q (c ∷ cs) rest e = go (open_step t p c) refl (λ r. left_over t r q cs rest)
   where
     go : (s : Step) → open_step t p c ≡ s → ((r : ParentRef) → reach t r cs ≡ Reached q rest → length rest ≤ length cs) → length rest ≤ length (c ∷ cs)
-    go (At r) f ih = let h = ih r (rw (f, reach) at e) in omega arith
-    go Nothing f ih = let g : Reached p (c ∷ cs) ≡ Reached q rest = rw (f, reach) at e in let h : c ∷ cs ≡ rest = cc in rw (← h) (omega arith)
-    go Damaged f ih = let g : NoEnd ≡ Reached q rest = rw (f, reach) at e in let z : ◌≡◌ {A = ℕ} 0 1 = cc in absurd (omega arith)
+    go (Ok (Some r)) f ih = let h = ih r (rw (f, reach) at e) in omega arith
+    go (Ok None) f ih = let g : Reached p (c ∷ cs) ≡ Reached q rest = rw (f, reach) at e in let h : c ∷ cs ≡ rest = cc in rw (← h) (omega arith)
+    go (Err d) f ih = let g : NoEnd ≡ Reached q rest = rw (f, reach) at e in let z : ◌≡◌ {A = ℕ} 0 1 = cc in absurd (omega arith)
 
 slots_nodes : (t : CharTrie) (p : ParentRef) (cs : List ℕ) → new_slots t p cs ≤ length cs
 unfolding new_slots
@@ -77,48 +67,53 @@ slots_nodes t p (c ∷ cs) = go (from_root t p c)
     go true = omega arith
     go false = omega arith
 
-room_of_lem : (used : ℕ) (t : CharTrie) (cs : List ℕ) (slots nodes : ℕ) (r : Reach) → reach t Root cs ≡ r → room_at used t r ≡ Partly slots nodes
-    → (slots ≤ length cs) × (nodes ≤ length cs)
-unfolding room_at new_steps
-room_of_lem used t cs slots nodes NoEnd e f = let z : ◌≡◌ {A = ℕ} 0 1 = cc in absurd (omega arith)
-room_of_lem used t cs slots nodes (Reached p []) e f = let z : ◌≡◌ {A = ℕ} 0 1 = cc in absurd (omega arith)
-room_of_lem used t cs slots nodes (Reached p (c ∷ rest)) e f =
+room_of_lem : (used : ℕ) (t : CharTrie) (cs : List ℕ) (room : Room) (r : Reach) → reach t Root cs ≡ r → room_at used t r ≡ Ok room
+    → (room.slots ≤ length cs) × (room.nodes ≤ length cs)
+unfolding room_at new_steps new_slots
+room_of_lem used t cs room NoEnd e f = let z : ◌≡◌ {A = ℕ} 0 1 = cc in absurd (omega arith)
+room_of_lem used t cs room (Reached p []) e f = go (word_at used t p) f
+  where
+    go : (w : WordNumber) → ◌≡◌ {A = Result Room Damaged} (elim w [ Ok r ↦ Ok (new_steps t p []) | Err d ↦ Err d ]) (Ok room)
+        → (room.slots ≤ length cs) × (room.nodes ≤ length cs)
+    go (Ok r) g = let es : 0 ≡ room.slots = cc in let en : 0 ≡ room.nodes = cc in (omega arith, omega arith)
+    go (Err d) g = let z : ◌≡◌ {A = ℕ} 0 1 = cc in absurd (omega arith)
+room_of_lem used t cs room (Reached p (c ∷ rest)) e f =
     let l = left_over t Root p cs (c ∷ rest) e in
     let n = slots_nodes t p (c ∷ rest) in
-    let es : new_slots t p (c ∷ rest) ≡ slots = cc in
-    let en : length (c ∷ rest) ≡ nodes = cc in
+    let es : new_slots t p (c ∷ rest) ≡ room.slots = cc in
+    let en : length (c ∷ rest) ≡ room.nodes = cc in
     (omega arith, omega arith)
 
-by_text : (used : ℕ) (t : CharTrie) (bs : List ℕ) (o : Option (List ℕ)) (slots nodes : ℕ) → chars_of bs ≡ o → room_of used t o ≡ Partly slots nodes
-    → (slots ≤ length bs) × (nodes ≤ length bs)
+by_text : (used : ℕ) (t : CharTrie) (bs : List ℕ) (o : Option (List ℕ)) (room : Room) → chars_of bs ≡ o → room_of used t o ≡ Ok room
+    → (room.slots ≤ length bs) × (room.nodes ≤ length bs)
 unfolding room_from
-by_text used t bs none slots nodes q f = let z : ◌≡◌ {A = ℕ} 0 1 = cc in absurd (omega arith)
-by_text used t bs (some cs) slots nodes q f =
-    let p = room_of_lem used t cs slots nodes (reach t Root cs) refl f in
+by_text used t bs none room q f = let z : ◌≡◌ {A = ℕ} 0 1 = cc in absurd (omega arith)
+by_text used t bs (some cs) room q f =
+    let p = room_of_lem used t cs room (reach t Root cs) refl f in
     let c = no_more_than_bytes bs cs q in
     (omega arith, omega arith)
 
-pub room_small : (used : ℕ) (t : CharTrie) (bs : List ℕ) (slots nodes : ℕ) → room_of used t (chars_of bs) ≡ Partly slots nodes
-    → (slots ≤ length bs) × (nodes ≤ length bs)
-room_small used t bs slots nodes f = by_text used t bs (chars_of bs) slots nodes refl f
+pub room_small : (used : ℕ) (t : CharTrie) (bs : List ℕ) (room : Room) → room_of used t (chars_of bs) ≡ Ok room
+    → (room.slots ≤ length bs) × (room.nodes ≤ length bs)
+room_small used t bs room f = by_text used t bs (chars_of bs) room refl f
 
 -- ---- the decision by the lookup
 
-abbrev pub by_got : Book → Option (List ℕ) → Got → ℕ → Decision
-by_got b o (Held n) frequency = decide_held b n frequency
-by_got b o Absent frequency = absent_text b o frequency
-by_got b o Got.Damaged frequency = Refuse Outcome.Damaged
+abbrev pub by_got : Book → Option (List ℕ) → WordNumber → ℕ → Decision
+by_got b o (Ok (Some n)) frequency = decide_held b n frequency
+by_got b o (Ok None) frequency = absent_text b o frequency
+by_got b o (Err d) frequency = Err Refusal.Damaged
 
 by_got_lem : (b : Book) (o : Option (List ℕ)) (frequency : ℕ) → IsSome o → by_got b o (got_of b.head.records b.trie o) frequency ≡ decide_text b o frequency
 unfolding decide_text got_of absent_text decide
 by_got_lem b none frequency h = absurd h
 by_got_lem b (some cs) frequency h = go (get_of b.head.records b.trie cs) refl
   where
-    go : (g : Got) → get_of b.head.records b.trie cs ≡ g → by_got b (some cs) (get_of b.head.records b.trie cs) frequency ≡ decide b cs frequency
-    go (Held n) e = rw (e, decide)
-    go Absent e = rw (e, decide)
-    go Got.Damaged e = rw (e, decide)
+    go : (g : WordNumber) → get_of b.head.records b.trie cs ≡ g → by_got b (some cs) (get_of b.head.records b.trie cs) frequency ≡ decide b cs frequency
+    go (Ok (Some n)) e = rw (e, decide)
+    go (Ok None) e = rw (e, decide)
+    go (Err d) e = rw (e, decide)
 
-pub decided_by_got : (b : Book) (o : Option (List ℕ)) (frequency : ℕ) (g : Got) → IsSome o → g ≡ got_of b.head.records b.trie o
+pub decided_by_got : (b : Book) (o : Option (List ℕ)) (frequency : ℕ) (g : WordNumber) → IsSome o → g ≡ got_of b.head.records b.trie o
     → by_got b o g frequency ≡ decide_text b o frequency
-decided_by_got b o frequency g h e = ap (λ (x : Got). by_got b o x frequency) e ∙ by_got_lem b o frequency h
+decided_by_got b o frequency g h e = ap (λ (x : WordNumber). by_got b o x frequency) e ∙ by_got_lem b o frequency h

@@ -9,9 +9,8 @@ ghost use Rattle.book.specs.Areas.{book_of};
 ghost use Rattle.book.specs.Returns.{longest_text, greatest_total, most_records, head_damaged};
 ghost use Rattle.decision.specs.Texts.{absent_text, decide_text};
 
-use book::{Decision, Head, Outcome};
-use trie::{Got, WordNumber};
-use walk::Room;
+use book::{Entering, Head, Refusal};
+use trie::{Slots, Tables};
 
 // How a word enters that the lookup does not find: by the insertion's own walk, which tests no bits.
 fn decide_absent(
@@ -22,7 +21,7 @@ fn decide_absent(
     shift: u32,
     word: &[u8],
     frequency: u64,
-) -> Decision
+) -> Result<Entering, Refusal>
     requires slot_table { SlotTable (length slots.now) shift }
     requires slots_value { head_damaged head (length records.now) (length slots.now / 2) ≡ false }
     requires some { IsSome (chars_of word.now) × (length word.now ≤ longest_text) × (frequency ≤ greatest_total) }
@@ -30,29 +29,24 @@ fn decide_absent(
         ≡ absent_text (book_of head (trie_of roots.now slots.now) records.now logarithms) (chars_of word.now) frequency }
 {
     let used = head.records as usize;
-    match word_walk::room_for(roots, slots, shift, used, word) {
-        Room::Damaged => Decision::Refuse(Outcome::Damaged),
-        Room::Whole(number) => match number {
-            WordNumber::Bad => Decision::Refuse(Outcome::Damaged),
-            WordNumber::NoWord => counts::decide_new(head, records.len(), slots, 0, 0, frequency),
-            WordNumber::Record(_) => counts::decide_new(
-                head,
-                records.len(),
-                slots,
-                0,
-                0,
-                frequency,
-            ),
+    let tables = Tables {
+        roots,
+        slots: Slots {
+            numbers: slots,
+            shift,
         },
-        Room::Partly(new_slots, nodes) => counts::decide_new(
-            head,
-            records.len(),
-            slots,
-            new_slots as u64,
-            nodes as u64,
-            frequency,
-        ),
-    }
+    };
+    let Ok(room) = word_walk::room_for(tables, used, word) else {
+        return Err(Refusal::Damaged);
+    };
+    counts::decide_new(
+        head,
+        records.len(),
+        slots,
+        room.slots as u64,
+        room.nodes as u64,
+        frequency,
+    )
 }
 
 // How a word enters: by its lookup, which tests the bits.
@@ -64,7 +58,7 @@ pub fn decide(
     shift: u32,
     word: &[u8],
     frequency: u64,
-) -> Decision
+) -> Result<Entering, Refusal>
     requires slot_table { SlotTable (length slots.now) shift }
     requires slots_value { head_damaged head (length records.now) (length slots.now / 2) ≡ false }
     requires some { IsSome (chars_of word.now) × (length word.now ≤ longest_text) × (frequency ≤ greatest_total) × (length records.now ≤ most_records) }
@@ -72,14 +66,21 @@ pub fn decide(
         ≡ decide_text (book_of head (trie_of roots.now slots.now) records.now logarithms) (chars_of word.now) frequency }
 {
     let used = head.records as usize;
-    match word_walk::get(roots, slots, shift, used, word) {
-        Got::Held(n) => counts::decide_held(
+    let tables = Tables {
+        roots,
+        slots: Slots {
+            numbers: slots,
+            shift,
+        },
+    };
+    match word_walk::get(tables, used, word) {
+        Ok(Some(n)) => counts::decide_held(
             head.total,
             book::cell_frequency(records[n]),
             n,
             frequency,
         ),
-        Got::Absent => decide_absent(head, roots, slots, records, shift, word, frequency),
-        Got::Damaged => Decision::Refuse(Outcome::Damaged),
+        Ok(None) => decide_absent(head, roots, slots, records, shift, word, frequency),
+        Err(_) => Err(Refusal::Damaged),
     }
 }

@@ -22,15 +22,13 @@ fn still_wanted(slots: &[u64], count: u64) -> u64
     ensures { result ≡ count - empty_slots (keys_of slots.now) }
 {
     let mut left = count;
-    let mut i = 0;
-    while i < slots.len() / 2 {
+    for i in 0..slots.len() / 2 {
         if left == 0 {
             return 0;
         }
         if trie::key_at(slots, i) == 0 {
             left -= 1;
         }
-        i += 1;
     }
     left
 }

@@ -6,72 +6,50 @@
 //! that fails. `tools/fillzero` builds this program and runs it, and makes of such a line the exit status 1.
 #![tactic(auto)]
 
-ghost use Rattle.std.specs.Prelude.{◌≤◌, length};
+ghost use Rattle.std.specs.Prelude.{◌≤◌, length, IfOk};
 
-use sheets::Sheet;
+use sheets::TooLong;
+use std::io;
 use std::io::Read;
 
 // One byte more than the longest sheet has, so that a longer one is seen.
 const SPACE: usize = sheets::LONGEST_SHEET + 1;
-
-// What was read: how many bytes, and whether the input could be read.
-#[derive(Clone, Copy)]
-struct Input {
-    bytes: usize,
-    read: bool,
-}
 
 // Says on standard error why there is no output.
 fn complain(rt: &impl Eprint, text: &str) {
     let _ = rt.eprintln(text);
 }
 
-// Reads until the input ends or the space is full.
-fn read_sheet(stdin: &mut impl Read, space: &mut [u8]) -> Input
-    ensures { result.bytes ≤ length space.new }
+// Reads until the input ends or the space is full, and answers how many bytes there are.
+// Kept: how many bytes come at a time only the input says, so the loop counts them.
+fn read_sheet(stdin: &mut impl Read, space: &mut [u8]) -> io::Result<usize>
+    ensures { IfOk result (λ bytes. bytes ≤ length space.new) }
 {
     let mut at: usize = 0;
     while at < space.len() {
-        match stdin.read(&mut space[at..]) {
-            Ok(0) => {
-                return Input {
-                    bytes: at,
-                    read: true,
-                };
-            }
-            Ok(bytes) => at += bytes,
-            Err(_) => {
-                return Input {
-                    bytes: at,
-                    read: false,
-                };
-            }
+        match stdin.read(&mut space[at..])? {
+            0 => break,
+            bytes => at += bytes,
         }
     }
-    Input {
-        bytes: at,
-        read: true,
-    }
+    Ok(at)
 }
 
 fn write_sheet(rt: &(impl Print + Eprint), sheet: &[u8]) {
-    match rt.write_all(sheet) {
-        Ok(()) => {}
-        Err(_) => complain(rt, "fillzero: standard output cannot be written"),
+    if rt.write_all(sheet).is_err() {
+        complain(rt, "fillzero: standard output cannot be written");
     }
 }
 
 fn main(rt: HostRuntime) {
     let mut space = [0u8; SPACE];
-    let input = read_sheet(&mut rt.stdin(), &mut space);
-    if !input.read {
+    let Ok(end) = read_sheet(&mut rt.stdin(), &mut space) else {
         complain(&rt, "fillzero: standard input cannot be read");
         return;
-    }
-    let end = input.bytes;
+    };
     let mut out = [0u8; sheets::ROOM];
     match sheets::fill(&space[..end], &mut out) {
-        Sheet::Filled(end) => write_sheet(&rt, &out[..end]),
-        Sheet::TooLong => complain(&rt, "fillzero: the sheet has more than 65,536 bytes"),
+        Ok(end) => write_sheet(&rt, &out[..end]),
+        Err(TooLong) => complain(&rt, "fillzero: the sheet has more than 65,536 bytes"),
     }
 }

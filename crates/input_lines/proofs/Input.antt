@@ -1,33 +1,32 @@
 -- The input's lines, a byte at a time: what is kept and what is left of the input make the whole. And the proofs of the claims on the input.
 -- Assumes nothing.
-use Prim.Native.Nat.{ℕ, suc, ◌+◌, ◌≤◌, ◌<◌}
+use Prim.Native.Nat.{ℕ, suc, ◌+◌, ◌-◌, ◌≤◌, ◌<◌, min}
 use mathlib.Core.Bool.{Bool, true, false}
 use mathlib.Core.List.{List, [], ◌∷◌, ◌++◌, append-nil}
 use mathlib.Core.Path.{◌≡◌, refl, sym, ap, ◌∙◌}
 use native.Mathlib.Decide.{dec_lt}
-use native.Mathlib.Numerals.{add-one}
 use native.Mathlib.Omega.{arith}
-use borrow.Author.Tests.{lt-ltb, le-ltb, eq-eqb, ne_eqb}
+use borrow.Author.Tests.{ltb-true, ltb-false, lt-ltb, le-ltb, ne_eqb}
 use lib.Dec.{eqb}
-use lib.ListN.{length, get_or, set, take, drop, length-set, length-append, drop_of_length-le}
-use lib.Seq.{drop-cons, take-suc-set, length-take-le, take_all, take_at, append_snoc}
+use lib.ListN.{length, take, drop, length-append}
+use lib.Seq.{length-take-le, take_all, take_at, append_snoc}
 use Rattle.printing.specs.Answers.{line_end}
+use Rattle.std.proofs.Common.{◌==◌, nat_lt, not, cond, subst}
+use Rattle.std.proofs.Math.Seq.{take-append-add}
+use borrow.Rule.Slice.PartMut.{put_mid}
+use Rattle.std.proofs.lemmas.Slice.{take-put_mid}
+use Rattle.std.proofs.lemmas.Bool.{eqb-true, eqb-false}
+use Rattle.std.specs.Prelude.{Some, None}
+use Rattle.std.specs.List.{position, position_or_len}
 use Rattle.input_lines.specs.Input.{most_kept, keep, taken, line_from}
 use Rattle.input_lines.specs.Claims.{NoLineEnd, LinesEndAtLineEnds, LastLineNeedsNone, after, PiecesMakeNoDifference}
 
 -- ---- a byte of the input
 
 by_byte : (line : List ℕ) (b : ℕ) (input : List ℕ) (t : Bool) → eqb b line_end ≡ t
-    → line_from line (b ∷ input) ≡ elim t [ true ↦ taken line true input | false ↦ line_from (keep line b) input ]
+    → line_from line (b ∷ input) ≡ elim t [ true ↦ taken line (Some input) | false ↦ line_from (keep line b) input ]
 unfolding line_from
-by_byte line b input t e = ap (λ (u : Bool). elim u [ true ↦ taken line true input | false ↦ line_from (keep line b) input ]) e
-
-module _ (line input : List ℕ) (at : ℕ) (inside : at < length input) where
-  line_end_lem : get_or input at 0 ≡ line_end → line_from line (drop at input) ≡ taken line true (drop (at + 1) input)
-  line_end_lem e = rw (add-one at, drop-cons input at 0 inside) (by_byte line (get_or input at 0) (drop (suc at) input) true (eq-eqb (get_or input at 0) line_end e))
-
-  one_byte : (b : ℕ) → b ≡ get_or input at 0 → (b ≡ line_end → ⊥) → line_from line (drop at input) ≡ line_from (keep line b) (drop (at + 1) input)
-  one_byte b is other = rw (add-one at, drop-cons input at 0 inside, ← is) (by_byte line b (drop (suc at) input) false (ne_eqb b line_end other))
+by_byte line b input t e = ap (λ (u : Bool). elim u [ true ↦ taken line (Some input) | false ↦ line_from (keep line b) input ]) e
 
 -- while there is room it is kept
 keep_more : (line : List ℕ) (b : ℕ) → length line < most_kept → keep line b ≡ line ++ (b ∷ [])
@@ -35,58 +34,6 @@ keep_more line b room = rw (lt-ltb (length line) most_kept room)
 
 keep_no_more : (line : List ℕ) (b : ℕ) → most_kept ≤ length line → keep line b ≡ line
 keep_no_more line b full = rw (le-ltb (length line) most_kept full)
-
--- ---- the loop of `take_line`
-
-pub record Taking (input : List ℕ) (from : ℕ) (before : List ℕ) (so_far : ℕ) (line : List ℕ) (kept at : ℕ) : Type 0 where
-  pub whole : line_from (take kept line) (drop at input) ≡ line_from (take so_far before) (drop from input)
-  pub few : kept ≤ most_kept
-  pub long : length line ≡ most_kept
-  pub on : from ≤ at
-
-pub taking : (input : List ℕ) (from : ℕ) (line : List ℕ) (so_far : ℕ) → so_far ≤ most_kept → length line ≡ most_kept
-    → Taking input from line so_far line so_far from
-taking input from line so_far few long = record { whole = refl; few = few; long = long; on = omega arith }
-
-module _ (input : List ℕ) (from : ℕ) (before : List ℕ) (so_far : ℕ) (line : List ℕ) (kept at : ℕ) (t : Taking input from before so_far line kept at) where
-  pub ends_line : (b : ℕ) → at < length input → b ≡ get_or input at 0 → b ≡ line_end
-      → taken (take kept line) true (drop (at + 1) input) ≡ line_from (take so_far before) (drop from input)
-  ends_line b inside is e = sym (line_end_lem (take kept line) input at inside (sym is ∙ e)) ∙ t.whole
-
-  pub ends_input : length input ≤ at → taken (take kept line) false (drop at input) ≡ line_from (take so_far before) (drop from input)
-  unfolding line_from
-  ends_input end =
-      let none : drop at input ≡ [] = drop_of_length-le input end in
-      ap (taken (take kept line) false) none ∙ sym (ap (line_from (take kept line)) none) ∙ t.whole
-
-  module _ (b : ℕ) (inside : at < length input) (is : b ≡ get_or input at 0) (other : b ≡ line_end → ⊥) where
-    pub keeps : kept < most_kept → Taking input from before so_far (set line kept b) (kept + 1) (at + 1)
-    keeps room =
-        let there : length (take kept line) ≡ kept = length-take-le kept line (omega (arith, t.long)) in
-        let fits : kept < length line = omega (arith, t.long) in
-        record {
-          whole =
-              ap (λ (l : List ℕ). line_from l (drop (at + 1) input))
-              (rw add-one (take-suc-set line kept b fits) ∙ sym (keep_more (take kept line) b (omega arith)))
-              ∙ sym (one_byte (take kept line) input at inside b is other)
-              ∙ t.whole;
-          few = omega arith;
-          long = length-set line kept b ∙ t.long;
-          on = omega (arith, t.on);
-        }
-
-    pub passes : most_kept ≤ kept → Taking input from before so_far line kept (at + 1)
-    passes full =
-        let there : length (take kept line) ≡ kept = length-take-le kept line (omega (arith, t.long, t.few)) in
-        record {
-          whole =
-              ap (λ (l : List ℕ). line_from l (drop (at + 1) input)) (sym (keep_no_more (take kept line) b (omega arith)))
-              ∙ sym (one_byte (take kept line) input at inside b is other)
-              ∙ t.whole;
-          few = t.few;
-          long = t.long;
-          on = omega (arith, t.on);
-        }
 
 -- ---- a stretch of the input without an LF is kept as far as there is room
 
@@ -119,8 +66,8 @@ last_line_needs_none line none = ap (line_from []) (sym (append-nil line)) ∙ s
 
 pieces_by : (line : List ℕ) (b : ℕ) (piece more : List ℕ) (test : Bool)
     → line_from (keep line b) (piece ++ more) ≡ after more (line_from (keep line b) piece)
-    → elim test [ true ↦ taken line true (piece ++ more) | false ↦ line_from (keep line b) (piece ++ more) ]
-    ≡ after more (elim test [ true ↦ taken line true piece | false ↦ line_from (keep line b) piece ])
+    → elim test [ true ↦ taken line (Some (piece ++ more)) | false ↦ line_from (keep line b) (piece ++ more) ]
+    ≡ after more (elim test [ true ↦ taken line (Some piece) | false ↦ line_from (keep line b) piece ])
 pieces_by line b piece more true e = refl
 pieces_by line b piece more false e = e
 
@@ -128,3 +75,79 @@ pub pieces_make_no_difference : PiecesMakeNoDifference
 unfolding line_from
 pieces_make_no_difference line [] more = refl
 pieces_make_no_difference line (b ∷ piece) more = pieces_by line b piece more (eqb b line_end) (pieces_make_no_difference (keep line b) piece more)
+
+-- ---- what `take_line` takes: the input up to its first LF, or all of it
+
+first_end : List ℕ → ℕ
+first_end input = position_or_len (λ b. b == line_end) input
+
+record UpToLineEnd (n : ℕ) (input : List ℕ) : Type 0 where
+  before : NoLineEnd (take n input)
+  there : n < length input → take n input ++ (line_end ∷ drop (n + 1) input) ≡ input
+
+up_to_by : (b : ℕ) (input : List ℕ) (n : ℕ) (t : Bool) → eqb b line_end ≡ t → UpToLineEnd n input → UpToLineEnd (cond (not t) (1 + n) 0) (b ∷ input)
+up_to_by b input n true e rest = record { before = tt; there = λ inside. ap (λ (x : ℕ). x ∷ input) (sym (eqb-true b line_end e)) }
+up_to_by b input n false e rest =
+    let next : 1 + n ≡ suc n = omega arith in
+    let after : suc n + 1 ≡ suc (n + 1) = omega arith in
+    record {
+      before = rw next (eqb-false b line_end e, rest.before);
+      there = λ inside. rw (next, after) (ap (λ (xs : List ℕ). b ∷ xs) (rest.there (omega arith)));
+    }
+
+up_to : (input : List ℕ) → UpToLineEnd (first_end input) input
+unfolding first_end
+up_to [] = record { before = tt; there = λ inside. absurd (omega arith) }
+up_to (b ∷ input) = up_to_by b input (first_end input) (eqb b line_end) refl (up_to input)
+
+found_by : (m count n : ℕ) (t : Bool) → nat_lt m count ≡ t → Some n ≡ cond t (Some m) None → (n ≡ m) × (m < count)
+found_by m count n true e is = (cc, ltb-true m count e)
+found_by m count n false e is = cc
+
+not_found_by : (m count : ℕ) (t : Bool) → nat_lt m count ≡ t → None ≡ cond t (Some m) None → count ≤ m
+not_found_by m count true e is = cc
+not_found_by m count false e is = ltb-false m count e
+
+module _ (line input : List ℕ) (few : length line ≤ most_kept) where
+  whole_by : (n : ℕ) → n < length input → UpToLineEnd n input → line_from line input ≡ taken (take most_kept (line ++ take n input)) (Some (drop (n + 1) input))
+  unfolding line_from
+  whole_by n inside parts =
+      ap (line_from line) (sym (parts.there inside)) ∙ stretch line (take n input) (line_end ∷ drop (n + 1) input) parts.before few
+
+  pub whole_line : (n : ℕ) → Some n ≡ position (λ b. b == line_end) input
+      → taken (take most_kept (line ++ take n input)) (Some (drop (n + 1) input)) ≡ line_from line input
+  unfolding first_end
+  whole_line n is =
+      let found = found_by (first_end input) (length input) n (nat_lt (first_end input) (length input)) refl is in
+      rw found.0 (sym (whole_by (first_end input) found.1 (up_to input)))
+
+  pub unfinished_line : None ≡ position (λ b. b == line_end) input → taken (take most_kept (line ++ input)) None ≡ line_from line input
+  unfolding first_end line_from
+  unfinished_line is =
+      let far = not_found_by (first_end input) (length input) (nat_lt (first_end input) (length input)) refl is in
+      let none : NoLineEnd input = subst NoLineEnd (take_all (first_end input) input far) (up_to input).before in
+      sym (ap (line_from line) (sym (append-nil input)) ∙ stretch line input [] none few)
+
+-- ---- what `Line::keep` keeps
+
+as_fits : (line bytes : List ℕ) (n : ℕ) → length line ≤ most_kept → n ≡ min (length bytes) (most_kept - length line)
+    → line ++ take n bytes ≡ take most_kept (line ++ bytes)
+as_fits line bytes n few is =
+    elim (dec_lt (length bytes) (most_kept - length line)) [
+      | yes all ↦
+          ap (λ (xs : List ℕ). line ++ xs) (take_all n bytes (omega arith))
+          ∙ sym (take_all most_kept (line ++ bytes) (rw length-append (omega arith)))
+      | no full ↦
+          let whole : most_kept ≡ length line + n = omega arith in
+          sym (rw whole (take-append-add line bytes n))
+    ]
+
+pub bytes_kept : (kept bytes ys : List ℕ) (count n k : ℕ) → count ≤ most_kept → length kept ≡ most_kept
+    → n ≡ min (length bytes) (most_kept - count) → ys ≡ take n bytes
+    → take (count + n) (put_mid count k kept ys) ≡ take most_kept (take count kept ++ bytes)
+bytes_kept kept bytes ys count n k few long is copied =
+    let there : length (take count kept) ≡ count = length-take-le count kept (omega arith) in
+    let some : length ys ≡ n = ap length copied ∙ length-take-le n bytes (omega arith) in
+    take-put_mid count k kept ys (count + n) (omega arith) (omega arith)
+    ∙ ap (λ (xs : List ℕ). take count kept ++ xs) copied
+    ∙ as_fits (take count kept) bytes n (omega arith) (omega arith)

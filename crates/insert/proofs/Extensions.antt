@@ -7,13 +7,12 @@ use mathlib.Core.Option.{IsSome}
 use native.Mathlib.Omega.{arith}
 use lib.IntN.{ℤ}
 use lib.ListN.{length, drop}
-use Rattle.utf8.specs.declared.Character.TheVariants.{Char}
-use Rattle.utf8.specs.Characters.{character_at}
+use Rattle.std.specs.Prelude.{Result, Ok, Err}
+use Rattle.utf8.specs.Characters.{character_at, char}
 use Rattle.utf8.specs.Text.{chars_of, chars_from}
 use Rattle.utf8.proofs.Positions.{inside, still_chars}
+use Rattle.trie.specs.declared.Damaged.{Damaged}
 use Rattle.trie.specs.declared.ParentRef.{ParentRef}
-use Rattle.trie.specs.declared.Step.{Step}
-use Rattle.trie.specs.declared.Step.TheVariants.{At, Nothing, Damaged}
 use Rattle.trie.specs.Trie.{CharTrie, trie_of, SlotTable, with_word, extend}
 use Rattle.walk.specs.Walk.{Inside}
 use Rattle.walk.proofs.Places.{inside_same}
@@ -25,22 +24,19 @@ use Rattle.insert.proofs.Words.{no_more, one_more}
 -- ---- the extension by a word, by the step of its first character
 
 module _ (t : CharTrie) (p : ParentRef) (c : ℕ) (cs word : List ℕ) (node : ℕ) (number : ℤ) (split : word ≡ c ∷ cs) where
-  after_step : (r : Step) (u : CharTrie) → stepped r u ≡ new_step t p c node → extend_stepped (stepped r u) cs (node + 1) number ≡ extend t p word node number
+  after_step : (r : Result ParentRef Damaged) (u : CharTrie) → stepped r u ≡ new_step t p c node → extend_stepped (stepped r u) cs (node + 1) number ≡ extend t p word node number
   after_step r u made = ap (λ (x : Stepped). extend_stepped x cs (node + 1) number) made
       ∙ sym (ap (λ (l : List ℕ). extend t p l node number) split ∙ extend_steps_then_extends t p c cs node number)
 
-  extend_on : (r : Step) (u : CharTrie) (q : ParentRef) → stepped r u ≡ new_step t p c node → r ≡ At q
+  extend_on : (r : Result ParentRef Damaged) (u : CharTrie) (q : ParentRef) → stepped r u ≡ new_step t p c node → r ≡ Ok q
       → extend u q cs (node + 1) number ≡ extend t p word node number
   unfolding extend_stepped
-  extend_on r u q made e = ap (λ (x : Step). extend_stepped (stepped x u) cs (node + 1) number) (sym e) ∙ after_step r u made
+  extend_on r u q made e = ap (λ (x : Result ParentRef Damaged). extend_stepped (stepped x u) cs (node + 1) number) (sym e) ∙ after_step r u made
 
-  -- of a step that leads nowhere the code knows only that it is not one to a place
-  extend_stops : (r : Step) (u : CharTrie) → stepped r u ≡ new_step t p c node → ((q : ParentRef) → r ≡ At q → ⊥)
+  extend_stops : (r : Result ParentRef Damaged) (u : CharTrie) → stepped r u ≡ new_step t p c node → (d : Damaged) → r ≡ Err d
       → u ≡ extend t p word node number
   unfolding extend_stepped
-  extend_stops (At q) u made h = absurd (h q refl)
-  extend_stops Nothing u made h = after_step Nothing u made
-  extend_stops Damaged u made h = after_step Damaged u made
+  extend_stops r u made d e = ap (λ (x : Result ParentRef Damaged). extend_stepped (stepped x u) cs (node + 1) number) (sym e) ∙ after_step r u made
 
 -- ---- the loop
 
@@ -75,15 +71,15 @@ module _ {roots₀ slots₀ s : List ℕ} {number : ℤ} {goal : CharTrie} {root
   pub ends : (u : CharTrie) → length s ≤ at → u ≡ with_word t p number → u ≡ goal
   ends u past named = named ∙ sym (ap (λ (l : List ℕ). extend t p l node number) (no_more s at past) ∙ extend_end t p node number) ∙ here.same
 
-  module _ {c w units : ℕ} (read : character_at s at ≡ Char c w units) {next : Step} (roots' slots' : List ℕ)
+  module _ {c w units : ℕ} (read : character_at s at ≡ char c w units) {next : Result ParentRef Damaged} (roots' slots' : List ℕ)
       (made : stepped next (trie_of roots' slots') ≡ new_step t p c node) where
     split : characters (drop at s) ≡ c ∷ characters (drop (at + w) s)
     split = one_more s at here.well_formed c w units read
 
-    pub stops : ((q : ParentRef) → next ≡ At q → ⊥) → trie_of roots' slots' ≡ goal
-    stops other = extend_stops t p c _ _ node number split next (trie_of roots' slots') made other ∙ here.same
+    pub stops : (d : Damaged) → next ≡ Err d → trie_of roots' slots' ≡ goal
+    stops d e = extend_stops t p c _ _ node number split next (trie_of roots' slots') made d e ∙ here.same
 
-    pub goes_on : {q : ParentRef} {shift : ℕ} → length roots' ≡ length roots → length slots' ≡ length slots → SlotTable (length slots₀) shift → next ≡ At q
+    pub goes_on : {q : ParentRef} {shift : ℕ} → length roots' ≡ length roots → length slots' ≡ length slots → SlotTable (length slots₀) shift → next ≡ Ok q
         → Extending roots₀ slots₀ s number goal roots' slots' q (at + w) (node + 1)
     goes_on {q} {shift} more numbers table e =
         let width = inside s at c w units read in

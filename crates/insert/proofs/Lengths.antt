@@ -6,13 +6,11 @@ use mathlib.Core.Bool.{Bool, true, false, cond}
 use mathlib.Core.List.{List, [], ◌∷◌}
 use lib.IntN.{ℤ}
 use lib.ListN.{length-set}
+use Rattle.std.specs.Prelude.{Result, Ok, Err, Some, None}
 use Rattle.trie.specs.declared.ParentRef.{ParentRef}
 use Rattle.trie.specs.declared.ParentRef.TheVariants.{Root, RootEntry, Slot}
-use Rattle.trie.specs.declared.Probe.{Probe}
-use Rattle.trie.specs.declared.Probe.TheVariants.{Found, Empty, Endless}
-use Rattle.trie.specs.declared.Step.{Step}
-use Rattle.trie.specs.declared.Step.TheVariants.{At, Nothing, Damaged}
-use Rattle.trie.specs.Trie.{CharTrie, key_of, node_at, from_root, open_step, with_bits, with_word, new_root_entry, new_slot, empty_slot, extend, insert}
+use Rattle.trie.specs.declared.Damaged.{Damaged}
+use Rattle.trie.specs.Trie.{CharTrie, key_of, node_at, from_root, open_step, with_bits, with_word, new_root_entry, new_slot, empty_slot, extend, insert, Step}
 use Rattle.insert.specs.Insert.{Stepped, stepped, new_step_by, new_step, extend_stepped}
 use Rattle.insert.specs.Claims.{SameLengths, InsertKeepsLengths}
 use Rattle.insert.proofs.NewSteps.{extend_end, extend_steps_then_extends}
@@ -51,17 +49,16 @@ slot_keeps t i key node = search length-set
 
 -- ---- chains of stores
 
-by_search : (r : Probe) (t : CharTrie) (p : ParentRef) (c node : ℕ) → SameLengths (new_step_by r t p c node).trie t
+by_search : (r : Result ℕ Damaged) (t : CharTrie) (p : ParentRef) (c node : ℕ) → SameLengths (new_step_by r t p c node).trie t
 unfolding new_step_by
-by_search (Found i) t p c node = same_lengths t
-by_search (Empty i) t p c node = then_same (slot_keeps (with_bits t p c) i (key_of (node_at t p) c) node) (bits_keep t p c)
-by_search Endless t p c node = same_lengths t
+by_search (Ok i) t p c node = then_same (slot_keeps (with_bits t p c) i (key_of (node_at t p) c) node) (bits_keep t p c)
+by_search (Err d) t p c node = same_lengths t
 
 pub new_step_keeps : (t : CharTrie) (p : ParentRef) (c node : ℕ) → SameLengths (new_step t p c node).trie t
 unfolding new_step
 new_step_keeps t p c node = by_root (from_root t p c)
   where
-    by_root : (b : Bool) → SameLengths (cond b (stepped (At (RootEntry c)) (new_root_entry t c node))
+    by_root : (b : Bool) → SameLengths (cond b (stepped (Ok (RootEntry c)) (new_root_entry t c node))
         (new_step_by (empty_slot t.keys (key_of (node_at t p) c)) t p c node)).trie t
     by_root true = entry_keeps t c node
     by_root false = by_search (empty_slot t.keys (key_of (node_at t p) c)) t p c node
@@ -71,10 +68,9 @@ after_step : (r : Stepped) (cs : List ℕ) (node : ℕ) (number : ℤ) → ((u :
 unfolding extend_stepped
 after_step r cs node number rest = by_step r.step
   where
-    by_step : (q : Step) → SameLengths (elim q [ At p ↦ extend r.trie p cs node number | Nothing ↦ r.trie | Damaged ↦ r.trie ]) r.trie
-    by_step (At p) = rest r.trie p
-    by_step Nothing = same_lengths r.trie
-    by_step Damaged = same_lengths r.trie
+    by_step : (q : Result ParentRef Damaged) → SameLengths (elim q [ Ok p ↦ extend r.trie p cs node number | Err d ↦ r.trie ]) r.trie
+    by_step (Ok p) = rest r.trie p
+    by_step (Err d) = same_lengths r.trie
 
 pub extend_keeps : (t : CharTrie) (p : ParentRef) (cs : List ℕ) (node : ℕ) (number : ℤ) → SameLengths (extend t p cs node number) t
 extend_keeps t p [] node number = rw (extend_end t p node number) (word_keeps t p number)
@@ -88,7 +84,7 @@ insert_keeps_lengths t p [] node number = word_keeps t p number
 insert_keeps_lengths t p (c ∷ cs) node number = by_step (open_step t p c) (λ u q. insert_keeps_lengths u q cs node number)
   where
     by_step : (r : Step) → ((u : CharTrie) (q : ParentRef) → SameLengths (insert u q cs node number) u)
-        → SameLengths (elim r [ At q ↦ insert (with_bits t p c) q cs node number | Nothing ↦ extend t p (c ∷ cs) node number | Damaged ↦ t ]) t
-    by_step (At q) rest = then_same (rest (with_bits t p c) q) (bits_keep t p c)
-    by_step Nothing rest = extend_keeps t p (c ∷ cs) node number
-    by_step Damaged rest = same_lengths t
+        → SameLengths (elim r [ Ok (Some q) ↦ insert (with_bits t p c) q cs node number | Ok None ↦ extend t p (c ∷ cs) node number | Err d ↦ t ]) t
+    by_step (Ok (Some q)) rest = then_same (rest (with_bits t p c) q) (bits_keep t p c)
+    by_step (Ok None) rest = extend_keeps t p (c ∷ cs) node number
+    by_step (Err d) rest = same_lengths t

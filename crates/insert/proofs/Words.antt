@@ -5,8 +5,7 @@ use mathlib.Core.Path.{◌≡◌, refl, ap, ◌∙◌}
 use mathlib.Core.List.{List, [], ◌∷◌}
 use mathlib.Core.Option.{Option, none, some, get_or, IsSome}
 use lib.ListN.{length, drop}
-use Rattle.utf8.specs.declared.Character.TheVariants.{Char}
-use Rattle.utf8.specs.Characters.{character_at}
+use Rattle.utf8.specs.Characters.{char, character_at}
 use Rattle.utf8.specs.Text.{before, chars_from}
 use Rattle.utf8.proofs.Positions.{from_char, from_end, still_chars}
 use Rattle.insert.specs.Insert.{characters}
@@ -21,7 +20,7 @@ module _ (s : List ℕ) (at : ℕ) where
   unfolding characters chars_from
   no_more past = rw (from_end s at past)
 
-  pub one_more : IsSome (chars_from s at) → (c w u : ℕ) → character_at s at ≡ Char c w u → characters (drop at s) ≡ c ∷ characters (drop (at + w) s)
+  pub one_more : IsSome (chars_from s at) → (c w u : ℕ) → character_at s at ≡ char c w u → characters (drop at s) ≡ c ∷ characters (drop (at + w) s)
   unfolding characters chars_from
   one_more well_formed c w u read =
       ap (λ (chars : Option (List ℕ)). get_or chars []) (from_char s at c w u read)

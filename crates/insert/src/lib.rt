@@ -1,8 +1,8 @@
 //! A word's insertion into the trie: `CharTrie::insert` (trie.rs).
 //!
 //! The Rust has one loop with a branch for each kind of step. Here the steps that are there come first, with their bits
-//! (`mark`), and the new ones after them (`extend`): from a word's first absent step on every step is new. The tables are lent,
-//! as to the lookups: the root's entries and the slots, and the shift that goes with the number of slots.
+//! (`mark`), and the new ones after them (`extend`): from a word's first absent step on every step is new. The tables are lent:
+//! the root's entries and the slots, and the shift that goes with the number of slots.
 //!
 //! Nothing is refused here: the caller has checked the text, the slots and the node numbers before anything is written. In
 //! tables that were not filled here a probe may still meet neither its key nor an empty slot; the insertion then stops.
@@ -18,19 +18,18 @@ ghost use Rattle.walk.specs.Walk.{Inside};
 ghost use Rattle.insert.specs.Insert as Insert;
 ghost use Rattle.insert.specs.Insert.{characters, marked, reach_of, Ready, stepped, new_step};
 
-use trie::{ParentRef, Probe, Step};
+use trie::{Damaged, ParentRef, Slots, Tables};
 
-// How far a word's steps are there.
+// How far a word's steps are there: up to a place. The rest of the word stands from a position of its text on.
 #[derive(Clone, Copy)]
-pub enum Marked {
-    // Up to a place; the rest of the word stands from a position of its text on.
-    UpTo(ParentRef, usize),
-    // A probe without an end: the book is damaged.
-    Damaged,
+pub struct Marked {
+    pub place: ParentRef,
+    pub at: usize,
 }
 
 // Follows the steps of a word that are there, from the root on. Each place that it steps on from gains the character's bits.
-fn mark(roots: &mut [u64], slots: &mut [u64], shift: u32, s: &[u8]) -> Marked
+// Kept: roots, slots and shift apart, here and below: a struct of two `&mut` needs a clause more in each contract, on both's names.
+fn mark(roots: &mut [u64], slots: &mut [u64], shift: u32, s: &[u8]) -> Result<Marked, Damaged>
     requires slot_table { SlotTable (length slots.old) shift }
     requires some { IsSome (chars_of s.now) }
     ensures ready { Ready (length roots.old) (length slots.old) s.now result }
@@ -38,19 +37,24 @@ fn mark(roots: &mut [u64], slots: &mut [u64], shift: u32, s: &[u8]) -> Marked
 {
     let mut place = ParentRef::Root;
     let mut at: usize = 0;
+    // Kept: no `for`, here and in `extend`: the position moves by a character's width, which is read with the character.
     while at < s.len() {
         let next = utf8::next_char(s, at);
-        match walk::open_step(roots, slots, shift, place, next.value) {
-            Step::At(child) => {
-                places::set_bits(roots, slots, place, next.value);
-                place = child;
-                at += next.width;
-            }
-            Step::Nothing => return Marked::UpTo(place, at),
-            Step::Damaged => return Marked::Damaged,
-        }
+        let tables = Tables {
+            roots: &*roots,
+            slots: Slots {
+                numbers: &*slots,
+                shift,
+            },
+        };
+        let Some(child) = walk::open_step(tables, place, next.value)? else {
+            return Ok(Marked { place, at });
+        };
+        places::set_bits(roots, slots, place, next.value);
+        place = child;
+        at += next.width;
     }
-    Marked::UpTo(place, at)
+    Ok(Marked { place, at })
 }
 
 // Makes a step that is not there, with this node, and says where it leads.
@@ -61,7 +65,7 @@ fn new_step(
     place: ParentRef,
     ch: u32,
     node: u32,
-) -> Step
+) -> Result<ParentRef, Damaged>
     requires slot_table { SlotTable (length slots.old) shift }
     requires inside { Inside (length roots.old) (length slots.old / 2) place }
     requires ch_bound { ch < 2 ^ 21 }
@@ -71,15 +75,17 @@ fn new_step(
     if walk::from_root(roots, place, ch) {
         let i = ch as usize;
         places::new_root_entry(roots, i, node);
-        return Step::At(ParentRef::RootEntry(i));
+        return Ok(ParentRef::RootEntry(i));
     }
     let key = trie::key(walk::node_at(roots, slots, place), ch);
-    let Probe::Empty(i) = char_trie::first_empty(slots, shift, key) else {
-        return Step::Damaged;
+    let searched = Slots {
+        numbers: &*slots,
+        shift,
     };
+    let i = char_trie::first_empty(searched, key)?;
     places::set_bits(roots, slots, place, ch);
     places::new_slot(slots, i, key, node);
-    Step::At(ParentRef::Slot(i))
+    Ok(ParentRef::Slot(i))
 }
 
 // Makes the steps for the characters of a text from a position on, the first of them from a place that is there. Their nodes
@@ -104,7 +110,7 @@ fn extend(
     while at < s.len() {
         let next = utf8::next_char(s, at);
         let step = new_step(roots, slots, shift, place, next.value, node);
-        let Step::At(child) = step else {
+        let Ok(child) = step else {
             return;
         };
         place = child;
@@ -123,8 +129,17 @@ pub fn insert(roots: &mut [u64], slots: &mut [u64], shift: u32, s: &[u8], node: 
     ensures { trie_of roots.new slots.new
         ≡ Trie.insert (trie_of roots.old slots.old) Root (characters s.now) node (pos number) }
 {
-    let Marked::UpTo(place, at) = mark(roots, slots, shift, s) else {
+    let Ok(marked) = mark(roots, slots, shift, s) else {
         return;
     };
-    extend(roots, slots, shift, s, at, place, node, number);
+    extend(
+        roots,
+        slots,
+        shift,
+        s,
+        marked.at,
+        marked.place,
+        node,
+        number,
+    );
 }

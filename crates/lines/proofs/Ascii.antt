@@ -11,7 +11,7 @@ use lib.Dec.{leb, eqb}
 use Rattle.utf8.specs.Encoding.{encode, encode_text}
 use Rattle.utf8.proofs.Encodings.{below, encode_1}
 use Rattle.utf8.proofs.Texts.{encode_lead}
-use Rattle.lines.specs.declared.Frequency.{Frequency}
+use Rattle.std.specs.Prelude.{Err}
 use Rattle.lines.specs.Lines.{digit, digits, number, frequency_of}
 
 -- what is above 0x7F is no digit
@@ -42,7 +42,7 @@ text_digits (c ∷ cs) e =
     let h : c ≤ 0x39 = leb-true c 0x39 q.1 in
     rw (encode_1 c (omega arith), text_digits cs p.1)
 
-no_number : (cs : List ℕ) → digits cs ≡ false → number cs ≡ Frequency.Malformed
+no_number : (cs : List ℕ) → digits cs ≡ false → number cs ≡ Err (record {})
 unfolding number
 no_number [] e = refl
 no_number (c ∷ cs) e = rw e

@@ -10,13 +10,13 @@ use Prim.Native.Nat.{ℕ, ◌+◌, ◌-◌, ◌≤◌}
 use native.Mathlib.Omega.{arith}
 use lib.ListN.{length, take, drop}
 use Rattle.classes.specs.WhiteSpace.{white_space}
-use Rattle.utf8.specs.declared.Character.TheVariants.{Char}
-use Rattle.utf8.specs.Characters.{character_at}
+use Rattle.utf8.specs.Characters.{char, character_at}
 use Rattle.utf8.specs.Encoding.{encode, byte_length}
 use Rattle.utf8.specs.Text.{before, chars_of, chars_from}
 use Rattle.utf8.proofs.Positions.{from_char, from_end, width_of, byte_length_cons, from_second, first_bytes, within_text, none_left}
-use Rattle.lines.specs.declared.Field.TheVariants.{Missing, At}
-use Rattle.lines.specs.Lines.{onto, take_while, drop_while, pieces, non_empty, fields_of, past, space_is, field_at}
+use Rattle.std.specs.Prelude.{Option as CodeOption, Some, None}
+use Rattle.std.specs.declared.ops.Range.{Range}
+use Rattle.lines.specs.Lines.{onto, take_while, drop_while, pieces, non_empty, fields_of, past, space_is, field_from, field_at}
 
 -- ---- the first characters that pass a test, and the rest
 
@@ -42,7 +42,7 @@ module _ (p : ℕ → Bool) (s : List ℕ) (at : ℕ) where
   past_none c none h e = absurd h
   past_none c (some cs) h e = rw e (omega arith)
 
-  module _ (h : IsSome (chars_from s at)) (c w u : ℕ) (r : character_at s at ≡ Char c w u) where
+  module _ (h : IsSome (chars_from s at)) (c w u : ℕ) (r : character_at s at ≡ char c w u) where
     first : chars_from s at ≡ before c (chars_from s (at + w))
     first = from_char s at c w u r
 
@@ -131,6 +131,12 @@ begins (c ∷ cs) ds d e = go (white_space c) refl (begins cs ds d)
 
 -- ---- a field at a position
 
+pub same_field : {a b c d : ℕ} → field_from a b ≡ field_from c d → (a ≡ c) × (b ≡ d)
+same_field e = (
+  ap (λ (o : CodeOption (Range ℕ)). elim o [ Some r ↦ r.start | None ↦ 0 ]) e,
+  ap (λ (o : CodeOption (Range ℕ)). elim o [ Some r ↦ r.end | None ↦ 0 ]) e,
+)
+
 -- of a text whose characters from `at` on are cs: the first field stands from a to b, and the other fields are those from b on
 pub record FieldFound (s cs : List ℕ) (at a b : ℕ) : Type 0 where
   pub word : List ℕ
@@ -165,7 +171,7 @@ module _ (s : List ℕ) (at : ℕ) (cs : List ℕ) (e : chars_from s at ≡ some
   unfolding fields_of pieces
   no_fields q = sym (fields_drop cs) ∙ ap fields_of q
 
-  pub missing : (a : ℕ) → a ≡ past white_space at (chars_from s at) → a ≡ length s → Missing ≡ field_at at (chars_from s at)
+  pub missing : (a : ℕ) → a ≡ past white_space at (chars_from s at) → a ≡ length s → None ≡ field_at at (chars_from s at)
   missing a q l =
       let z : chars_from s start ≡ some [] = from_end s start (omega (arith, start_is)) in
       let n : drop_while white_space cs ≡ [] = cc from_start in
@@ -196,40 +202,39 @@ module _ (s : List ℕ) (at : ℕ) (cs : List ℕ) (e : chars_from s at ≡ some
       after = from_second s start (take_while non_space (d ∷ ds)) (drop_while non_space (d ∷ ds)) field_whole;
     }
 
-    pub found_here : (a b : ℕ) → a ≡ past white_space at (chars_from s at) → b ≡ past non_space a (chars_from s a) → At a b ≡ field_at at (chars_from s at)
+    pub found_here : (a b : ℕ) → a ≡ past white_space at (chars_from s at) → b ≡ past non_space a (chars_from s a) → field_from a b ≡ field_at at (chars_from s at)
     unfolding start
     found_here a b ea eb =
         let sa : a ≡ start = ea ∙ start_is in
         let sb : b ≡ start + byte_length (take_while non_space (d ∷ ds)) = eb ∙ ap (λ (x : ℕ). past non_space x (chars_from s x)) sa ∙ field_end in
         rw (sa, sb, e, split)
 
-    at_found : (a b : ℕ) → field_at at (chars_from s at) ≡ At a b → FieldFound s cs at a b
+    at_found : (a b : ℕ) → field_at at (chars_from s at) ≡ field_from a b → FieldFound s cs at a b
     unfolding start
     at_found a b f =
-        let g : At start (start + byte_length (take_while non_space (d ∷ ds))) ≡ At a b = rw (e, split) at f in
-        let ea : start ≡ a = cc in
-        let eb : start + byte_length (take_while non_space (d ∷ ds)) ≡ b = cc in
-        rw (← ea, ← eb) field_found
+        let g : field_from start (start + byte_length (take_while non_space (d ∷ ds))) ≡ field_from a b = rw (e, split) at f in
+        let same = same_field g in
+        rw (← same.0, ← same.1) field_found
 
-  by_rest : (ds : List ℕ) → drop_while white_space cs ≡ ds → (a b : ℕ) → field_at at (chars_from s at) ≡ At a b → FieldFound s cs at a b
-  by_rest [] q a b f = let g : Missing ≡ At a b = rw (e, no_fields q) at f in let z : ◌≡◌ {A = ℕ} 0 1 = cc in absurd (omega arith)
+  by_rest : (ds : List ℕ) → drop_while white_space cs ≡ ds → (a b : ℕ) → field_at at (chars_from s at) ≡ field_from a b → FieldFound s cs at a b
+  by_rest [] q a b f = let g : None ≡ field_from a b = rw (e, no_fields q) at f in let z : ◌≡◌ {A = ℕ} 0 1 = cc in absurd (omega arith)
   by_rest (d ∷ ds) q a b f = at_found d ds q a b f
 
   -- what `next_field` found
-  pub field_at_lem : (a b : ℕ) → field_at at (chars_from s at) ≡ At a b → FieldFound s cs at a b
+  pub field_at_lem : (a b : ℕ) → field_at at (chars_from s at) ≡ field_from a b → FieldFound s cs at a b
   field_at_lem a b f = by_rest (drop_while white_space cs) refl a b f
 
-  by_none : (ds : List ℕ) → drop_while white_space cs ≡ ds → field_at at (chars_from s at) ≡ Missing → fields_of cs ≡ []
+  by_none : (ds : List ℕ) → drop_while white_space cs ≡ ds → field_at at (chars_from s at) ≡ None → fields_of cs ≡ []
   by_none [] q f = no_fields q
   by_none (d ∷ ds) q f =
-      let g : At start (start + byte_length (take_while non_space (d ∷ ds))) ≡ Missing = unfold start in rw (e, split d ds q) at f in
+      let g : field_from start (start + byte_length (take_while non_space (d ∷ ds))) ≡ None = unfold start in rw (e, split d ds q) at f in
       let z : ◌≡◌ {A = ℕ} 0 1 = cc in absurd (omega arith)
 
-  pub none_at : field_at at (chars_from s at) ≡ Missing → fields_of cs ≡ []
+  pub none_at : field_at at (chars_from s at) ≡ None → fields_of cs ≡ []
   none_at f = by_none (drop_while white_space cs) refl f
 
   by_left : (a b : ℕ) (ds : List ℕ) → drop_while white_space cs ≡ ds → a ≡ past white_space at (chars_from s at) → (a ≡ length s → ⊥)
-      → b ≡ past non_space a (chars_from s a) → At a b ≡ field_at at (chars_from s at)
+      → b ≡ past non_space a (chars_from s a) → field_from a b ≡ field_at at (chars_from s at)
   by_left a b [] q ea l eb =
       let n : length s ≤ start = none_left s start (from_start ∙ ap some q) in
       let i : start ≤ length s = start_in in
@@ -239,7 +244,7 @@ module _ (s : List ℕ) (at : ℕ) (cs : List ℕ) (e : chars_from s at ≡ some
 
   -- what `next_field` answers
   pub found : (a b : ℕ) → a ≡ past white_space at (chars_from s at) → (a ≡ length s → ⊥) → b ≡ past non_space a (chars_from s a)
-      → At a b ≡ field_at at (chars_from s at)
+      → field_from a b ≡ field_at at (chars_from s at)
   found a b ea l eb = by_left a b (drop_while white_space cs) refl ea l eb
 
   -- the text goes on after the white space

@@ -1,16 +1,15 @@
 -- The lines of a dictionary text: document 01, "A line enters", up to the word and its frequency.
 -- Assumes nothing.
 use Rattle.std.specs.Prelude.{ℕ, ◌+◌, ◌-◌, ◌*◌, Bool, true, false, not, ◌&&◌, cond, List, [], ◌∷◌, eqb, leb, length, drop}
+use Rattle.std.specs.Prelude.{Result, Ok, Err, Option as CodeOption, Some, None}
+use Rattle.std.specs.declared.ops.Range.{Range}
 use Rattle.std.proofs.Math.Option.{Option, none, some}
 use Rattle.classes.specs.WhiteSpace.{white_space}
 use Rattle.utf8.specs.Encoding.{byte_length}
 use Rattle.utf8.specs.Text.{chars_of}
-use Rattle.lines.specs.declared.Frequency.{Frequency}
-use Rattle.lines.specs.declared.Frequency.TheVariants.{Value}
-use Rattle.lines.specs.declared.Field.{Field}
-use Rattle.lines.specs.declared.Field.TheVariants.{Missing, At}
-use Rattle.lines.specs.declared.Line.{Line}
-use Rattle.lines.specs.declared.Line.TheVariants.{Malformed, Blank, BadFrequency, Entry}
+use Rattle.lines.specs.declared.BadFrequency.{BadFrequency}
+use Rattle.lines.specs.declared.Entry.{Entry}
+use Rattle.lines.specs.declared.LineError.{LineError}
 
 -- ---- lines, of bytes
 
@@ -71,16 +70,13 @@ abbrev pub greatest : ℕ
 greatest = 4294967295
 
 -- digits, of which there is one or more, and their number at most the greatest
-unfoldable pub number : List ℕ → Frequency
-number [] = Frequency.Malformed
-number (c ∷ cs) = cond (digits (c ∷ cs) && leb (decimal 0 (c ∷ cs)) greatest) (Value (decimal 0 (c ∷ cs))) Frequency.Malformed
-
-unfoldable pub number_at : List ℕ → ℕ → Frequency
-number_at s at = number (drop at s)
+unfoldable pub number : List ℕ → Result ℕ BadFrequency
+number [] = Err (record {})
+number (c ∷ cs) = cond (digits (c ∷ cs) && leb (decimal 0 (c ∷ cs)) greatest) (Ok (decimal 0 (c ∷ cs))) (Err (record {}))
 
 -- "an optional + and one or more digits"
-unfoldable pub frequency_of : List ℕ → Frequency
-frequency_of [] = Frequency.Malformed
+unfoldable pub frequency_of : List ℕ → Result ℕ BadFrequency
+frequency_of [] = Err (record {})
 frequency_of (c ∷ cs) = cond (eqb c 0x2B) (number cs) (number (c ∷ cs))
 
 -- ---- a line
@@ -92,9 +88,9 @@ pub data Meaning : Type 0 where
   bad_frequency : Meaning
   entry : List ℕ → ℕ → Meaning
 
-abbrev pub with_frequency : List ℕ → Frequency → Meaning
-with_frequency w Frequency.Malformed = bad_frequency
-with_frequency w (Value n) = entry w n
+abbrev pub with_frequency : List ℕ → Result ℕ BadFrequency → Meaning
+with_frequency w (Ok n) = entry w n
+with_frequency w (Err e) = bad_frequency
 
 -- "Field 1 is the word, field 2 its frequency", and document 02, note 7: "An absent frequency now means 1."
 abbrev pub meaning_of_fields : List (List ℕ) → Meaning
@@ -121,21 +117,28 @@ abbrev pub space_is : Bool → ℕ → Bool
 space_is true c = white_space c
 space_is false c = not (white_space c)
 
-abbrev pub field_placed : ℕ → List (List ℕ) → Field
-field_placed start [] = Missing
-field_placed start (f ∷ fs) = At start (start + byte_length f)
+-- a field, and a line with a word, by where they stand
+abbrev pub field_from : ℕ → ℕ → CodeOption (Range ℕ)
+field_from a b = Some (record { start = a; end = b })
+
+abbrev pub entry_from : ℕ → ℕ → ℕ → Result (CodeOption Entry) LineError
+entry_from a b n = Ok (Some (record { word = record { start = a; end = b }; frequency = n }))
+
+abbrev pub field_placed : ℕ → List (List ℕ) → CodeOption (Range ℕ)
+field_placed start [] = None
+field_placed start (f ∷ fs) = field_from start (start + byte_length f)
 
 -- the first field from a position on
-abbrev pub field_at : ℕ → Option (List ℕ) → Field
-field_at at none = Missing
+abbrev pub field_at : ℕ → Option (List ℕ) → CodeOption (Range ℕ)
+field_at at none = None
 field_at at (some cs) = field_placed (past white_space at (some cs)) (fields_of cs)
 
-abbrev pub line_placed : ℕ → Meaning → Line
-line_placed start malformed = Malformed
-line_placed start blank = Blank
-line_placed start bad_frequency = BadFrequency
-line_placed start (entry w n) = Entry start (start + byte_length w) n
+abbrev pub line_placed : ℕ → Meaning → Result (CodeOption Entry) LineError
+line_placed start malformed = Err LineError.Malformed
+line_placed start blank = Ok None
+line_placed start bad_frequency = Err LineError.BadFrequency
+line_placed start (entry w n) = entry_from start (start + byte_length w) n
 
 -- what a line says
-unfoldable pub line_of : List ℕ → Line
+unfoldable pub line_of : List ℕ → Result (CodeOption Entry) LineError
 line_of line = line_placed (past white_space 0 (chars_of line)) (meaning_of line)

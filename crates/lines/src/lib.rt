@@ -7,52 +7,66 @@
 ghost use Rattle.std.specs.Prelude.{◌≡◌, ◌≤◌, ◌<◌, length};
 ghost use Rattle.std.proofs.Math.Option.{IsSome};
 ghost use Rattle.utf8.specs.Text.{chars_from};
-ghost use Rattle.lines.specs.Lines.{line_end, past, space_is, field_at, number_at, frequency_of, line_of};
+ghost use Rattle.lines.specs.Lines.{line_end, past, space_is, field_at, number, frequency_of, line_of};
 
-use utf8::CharCount;
+use std::ops::Range;
+use utf8::Malformed;
 
-// A field of a line, from where to where it stands.
-#[derive(Clone, Copy)]
-pub enum Field {
-    At(usize, usize),
-    Missing,
+// A line with a word: where it stands in the line, and its frequency.
+#[derive(Drop)]
+pub struct Entry {
+    pub word: Range<usize>,
+    pub frequency: u32,
 }
 
-// What a field says as a frequency.
-#[derive(Clone, Copy)]
-pub enum Frequency {
-    Value(u32),
-    Malformed,
-}
-
-// What a line says.
-#[derive(Clone, Copy)]
-pub enum Line {
+// Why a line says nothing.
+#[derive(Clone, Copy, Debug, PartialEq, Eq)]
+pub enum LineError {
     // It is not UTF-8.
     Malformed,
-    // It has no field.
-    Blank,
     // Its second field is no frequency.
     BadFrequency,
-    // A word, from where to where it stands in the line, and its frequency.
-    Entry(usize, usize, u32),
+}
+
+impl From<Malformed> for LineError {
+    ghost use Rattle.lines.specs.declared.LineError.TheVariants.{Malformed};
+
+    ghost from_gives = { λ _ e. e ≡ Malformed };
+
+    fn from(_e: Malformed) -> LineError {
+        LineError::Malformed
+    }
+}
+
+// A field that is no frequency.
+#[derive(Clone, Copy, Debug, PartialEq, Eq)]
+pub struct BadFrequency;
+
+impl From<BadFrequency> for LineError {
+    ghost use Rattle.lines.specs.declared.LineError.TheVariants.{BadFrequency};
+
+    ghost from_gives = { λ _ e. e ≡ BadFrequency };
+
+    fn from(_e: BadFrequency) -> LineError {
+        LineError::BadFrequency
+    }
 }
 
 // Where the line ends that starts at a position of a text: at the next LF, or at the text's end.
+#[tactic(auto, using(crate::proofs::Ends::end_here, crate::proofs::Ends::end_next, crate::proofs::Ends::end_last))]
 pub fn line_end(s: &[u8], at: usize) -> usize
     ensures { result ≡ line_end s.now at }
 {
-    let mut end = at;
-    while end < s.len() {
-        if s[end] == 0x0A {
+    for end in at..s.len() {
+        if s[end] == b'\n' {
             return end;
         }
-        end += 1;
     }
-    end
+    at.max(s.len())
 }
 
 // The position after the white space, or after what is none, that stands at a position.
+// Kept: a step is as wide as its character, and the position is the answer, which an iterator of characters would have to give back.
 fn skip(s: &[u8], at: usize, space: bool) -> usize
     requires { IsSome (chars_from s.now at) }
     ensures { result ≡ past (space_is space) at (chars_from s.now at) }
@@ -69,82 +83,60 @@ fn skip(s: &[u8], at: usize, space: bool) -> usize
 }
 
 // The first field from a position on.
-pub fn next_field(s: &[u8], at: usize) -> Field
+pub fn next_field(s: &[u8], at: usize) -> Option<Range<usize>>
     requires { (at ≤ length s.now) × IsSome (chars_from s.now at) }
     ensures { result ≡ field_at at (chars_from s.now at) }
 {
     let start = skip(s, at, true);
     if start == s.len() {
-        return Field::Missing;
+        return None;
     }
-    let end = skip(s, start, false);
-    Field::At(start, end)
+    Some(start..skip(s, start, false))
 }
 
-fn wide(b: u8) -> u64
-    ensures { (result ≡ b) × (result < 0x100) }
+// The number of these digits. It stops at the first that makes the number too large.
+#[tactic(auto, using(crate::proofs::Numbers::reading))]
+fn parse_digits(digits: &[u8]) -> Result<u32, BadFrequency>
+    ensures { result ≡ number digits.now }
 {
-    b as u64
-}
-
-// The number of the digits from a position on. It stops at the first that makes the number too large.
-fn parse_digits(s: &[u8], from: usize) -> Frequency
-    ensures { result ≡ number_at s.now from }
-{
-    if s.len() <= from {
-        return Frequency::Malformed;
+    if digits.is_empty() {
+        return Err(BadFrequency);
     }
     let mut n: u64 = 0;
-    let mut at = from;
-    while at < s.len() {
-        let b = wide(s[at]);
-        if b < 0x30 {
-            return Frequency::Malformed;
+    for &b in digits {
+        if !b.is_ascii_digit() {
+            return Err(BadFrequency);
         }
-        if 0x39 < b {
-            return Frequency::Malformed;
-        }
-        n = n * 10 + (b - 0x30);
+        n = n * 10 + u64::from(b - b'0');
         if 0xFFFF_FFFF < n {
-            return Frequency::Malformed;
+            return Err(BadFrequency);
         }
-        at += 1;
     }
-    Frequency::Value(n as u32)
+    Ok(n as u32)
 }
 
 // A field as a frequency.
-pub fn parse_frequency(field: &[u8]) -> Frequency
+pub fn parse_frequency(field: &[u8]) -> Result<u32, BadFrequency>
     ensures { result ≡ frequency_of field.now }
 {
-    if field.len() == 0 {
-        return Frequency::Malformed;
-    }
-    if field[0] == 0x2B {
-        parse_digits(field, 1)
-    } else {
-        parse_digits(field, 0)
+    match field.strip_prefix(b"+") {
+        Some(digits) => parse_digits(digits),
+        None => parse_digits(field),
     }
 }
 
-// A line by its fields: the first is the word, the second its frequency, which is 1 where it is absent, and any others are ignored.
-pub fn parse_line(line: &[u8]) -> Line
+// A line by its fields, where it has any: the first is the word, the second its frequency, which is 1 where it is absent, and any
+// others are ignored.
+pub fn parse_line(line: &[u8]) -> Result<Option<Entry>, LineError>
     ensures { result ≡ line_of line.now }
 {
-    match utf8::char_count(line) {
-        CharCount::Malformed => {
-            return Line::Malformed;
-        }
-        CharCount::Chars(_) => {}
-    }
-    let Field::At(start, end) = next_field(line, 0) else {
-        return Line::Blank;
+    utf8::char_count(line)?;
+    let Some(word) = next_field(line, 0) else {
+        return Ok(None);
     };
-    let Field::At(from, to) = next_field(line, end) else {
-        return Line::Entry(start, end, 1);
+    let Some(field) = next_field(line, word.end) else {
+        return Ok(Some(Entry { word, frequency: 1 }));
     };
-    match parse_frequency(&line[from..to]) {
-        Frequency::Malformed => Line::BadFrequency,
-        Frequency::Value(n) => Line::Entry(start, end, n),
-    }
+    let frequency = parse_frequency(&line[field.start..field.end])?;
+    Ok(Some(Entry { word, frequency }))
 }

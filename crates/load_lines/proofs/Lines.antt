@@ -6,25 +6,26 @@ use mathlib.Core.Option.{IsSome}
 use Prim.Native.Nat.{ℕ, ◌-◌, ◌≤◌}
 use native.Mathlib.Omega.{arith}
 use lib.ListN.{length, take, drop, length-take}
+use Rattle.std.specs.Prelude.{Result, Ok, Err, Option, Some, None}
 use Rattle.classes.specs.WhiteSpace.{white_space}
 use Rattle.utf8.specs.Text.{chars_of}
-use Rattle.lines.specs.declared.Line.{Line}
-use Rattle.lines.specs.declared.Line.TheVariants.{Malformed, Blank, BadFrequency, Entry}
-use Rattle.lines.specs.Lines.{Meaning, malformed, blank, bad_frequency, entry, meaning_of, past, line_placed, line_of}
+use Rattle.lines.specs.declared.Entry.{Entry}
+use Rattle.lines.specs.declared.LineError.{LineError}
+use Rattle.lines.specs.Lines.{Meaning, malformed, blank, bad_frequency, entry, meaning_of, past, entry_from, line_placed, line_of}
 use Rattle.lines.proofs.Meanings.{EntryFound, entry_found}
-use Rattle.book.specs.declared.Outcome.{Outcome}
-use Rattle.book.specs.declared.Outcome.TheVariants.{Done}
-use Rattle.book.specs.Returns.{Book}
+use Rattle.book.specs.Returns.{Book, refusal_of_line}
 use Rattle.entry.specs.Texts.{EnterAnswer, enter_answer, enter_text, enter_meaning, enter_line}
 
 -- what is answered, where it is known before the word enters
-abbrev answer_to : Book → List ℕ → Line → EnterAnswer
-answer_to b line Malformed = enter_answer Outcome.Malformed b
-answer_to b line Blank = enter_answer Done b
-answer_to b line BadFrequency = enter_answer Outcome.BadFrequency b
-answer_to b line (Entry start end n) = enter_line b line
+abbrev Parsed : Type 0
+Parsed = Result (Option Entry) LineError
 
-module _ (b : Book) (line : List ℕ) {l : Line} (parsed : l ≡ line_of line) where
+abbrev answer_to : Book → List ℕ → Parsed → EnterAnswer
+answer_to b line (Err e) = enter_answer (Err (refusal_of_line e)) b
+answer_to b line (Ok None) = enter_answer (Ok tt) b
+answer_to b line (Ok (Some e)) = enter_line b line
+
+module _ (b : Book) (line : List ℕ) {l : Parsed} (parsed : l ≡ line_of line) where
   by_meaning : (start : ℕ) (m : Meaning) → meaning_of line ≡ m → answer_to b line (line_placed start m) ≡ enter_meaning b m
   unfolding enter_line
   by_meaning start malformed e = refl
@@ -36,17 +37,14 @@ module _ (b : Book) (line : List ℕ) {l : Line} (parsed : l ≡ line_of line) w
   unfolding line_of enter_line
   by_line = ap (answer_to b line) parsed ∙ by_meaning (past white_space 0 (chars_of line)) (meaning_of line) refl
 
-  pub line_malformed : l ≡ Malformed → enter_answer Outcome.Malformed b ≡ enter_line b line
-  line_malformed e = rw e at by_line
+  pub line_refused : {e : LineError} → l ≡ Err e → enter_answer (Err (refusal_of_line e)) b ≡ enter_line b line
+  line_refused e = rw e at by_line
 
-  pub line_blank : l ≡ Blank → enter_answer Done b ≡ enter_line b line
+  pub line_blank : l ≡ Ok None → enter_answer (Ok tt) b ≡ enter_line b line
   line_blank e = rw e at by_line
 
-  pub line_bad : l ≡ BadFrequency → enter_answer Outcome.BadFrequency b ≡ enter_line b line
-  line_bad e = rw e at by_line
-
 -- the word of a line that has one
-module _ (line : List ℕ) {l : Line} (parsed : l ≡ line_of line) {start end n : ℕ} (e : l ≡ Entry start end n) where
+module _ (line : List ℕ) {l : Parsed} (parsed : l ≡ line_of line) {start end n : ℕ} (e : l ≡ entry_from start end n) where
   found : EntryFound line start end n
   found = entry_found line start end n (sym parsed ∙ e)
 

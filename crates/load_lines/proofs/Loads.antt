@@ -1,8 +1,9 @@
 -- A load, line by line from a position of the text on: each line's answer stops the load or goes on to the line after it. The lines keep the lengths of
 -- all areas, so that the sizes are tested once.
 -- Assumes nothing.
+use Rattle.std.specs.Prelude.{Ok, Err}
 use mathlib.Core.Path.{◌≡◌, refl, sym, ap, ◌∙◌}
-use mathlib.Core.Bool.{Bool, true, false, not}
+use mathlib.Core.Bool.{true}
 use mathlib.Core.List.{List}
 use Prim.Native.Nat.{ℕ, ◌+◌, ◌-◌, ◌<◌, ◌≤◌}
 use native.Mathlib.Nat.{le_of_lt}
@@ -11,10 +12,11 @@ use lib.Ieee.{Float}
 use lib.ListN.{length, take, drop, length-take, length-drop}
 use Rattle.lines.specs.Lines.{lines_of, line_end}
 use Rattle.lines.proofs.Ends.{lines_at, lines_end, end_bounds}
-use Rattle.book.specs.declared.Outcome.TheVariants.{Done}
-use Rattle.book.specs.Returns.{Book, is_done}
+use Rattle.book.specs.Returns.{Book}
 use Rattle.book.specs.Areas.{areas_allowed}
-use Rattle.book.specs.Enter.{load_answer, load_lines}
+use Rattle.book.specs.declared.Refusal.{Refusal}
+use Rattle.book.specs.Enter.{loaded, load_lines}
+use Rattle.book.proofs.Outcomes.{not_done}
 use Rattle.entry.specs.Texts.{EnterAnswer, enter_line}
 use Rattle.entry.proofs.Lines.{load_on, load_line_lem}
 use Rattle.load_lines.specs.Answers.{lines_loaded}
@@ -53,11 +55,11 @@ begins b text = record {
 }
 
 module _ {b₀ : Book} {text : List ℕ} {b : Book} {n at : ℕ} (turn : Loading b₀ text b n at) where
-  pub ends : length text ≤ at → load_answer Done n b ≡ lines_loaded b₀ 0 text 0
+  pub ends : length text ≤ at → loaded (Ok n) b ≡ lines_loaded b₀ 0 text 0
   unfolding lines_loaded load_lines
   ends h = all_read ∙ turn.same
     where
-      all_read : load_answer Done n b ≡ lines_loaded b n text at
+      all_read : loaded (Ok n) b ≡ lines_loaded b n text at
       all_read = rw (lines_end text at h)
 
   module _ (h : at < length text) {end : ℕ} (q : end ≡ line_end text at) where
@@ -74,17 +76,16 @@ module _ {b₀ : Book} {text : List ℕ} {b : Book} {n at : ℕ} (turn : Loading
           load_line_lem b n (take (end - at) (drop at text)) (lines_of (drop (end + 1) text)) e f
           ∙ rw q (ap (load_lines b n) (sym (lines_at text at (le_of_lt h) h)))
 
-      module _ {done : Bool} (tested : done ≡ is_done e.outcome) where
-        pub stops : done ≡ false → load_answer e.outcome (n + 1) e.book ≡ lines_loaded b₀ 0 text 0
-        stops z = sym (rw (sym tested, z)) ∙ one_line ∙ turn.same
+      pub stops : {r : Refusal} → e.outcome ≡ Err r → loaded (Err (record { refusal = r; line = n + 1 })) e.book ≡ lines_loaded b₀ 0 text 0
+      stops {r} z = sym (rw (z, not_done r)) ∙ one_line ∙ turn.same
 
-        pub goes_on : done ≡ true → Loading b₀ text e.book (n + 1) (end + 1)
-        unfolding lines_loaded
-        goes_on z = record {
-          same = rest ∙ turn.same;
-          counted = let l = line_inside in let k = turn.counted in omega arith;
-          inside = let l = line_inside in omega arith;
-        }
-          where
-            rest : lines_loaded e.book (n + 1) text (end + 1) ≡ lines_loaded b n text at
-            rest = sym (rw (sym tested, z)) ∙ one_line
+      pub goes_on : {done : Unit {0}} → e.outcome ≡ Ok done → Loading b₀ text e.book (n + 1) (end + 1)
+      unfolding lines_loaded
+      goes_on z = record {
+        same = rest ∙ turn.same;
+        counted = let l = line_inside in let k = turn.counted in omega arith;
+        inside = let l = line_inside in omega arith;
+      }
+        where
+          rest : lines_loaded e.book (n + 1) text (end + 1) ≡ lines_loaded b n text at
+          rest = sym (rw z) ∙ one_line

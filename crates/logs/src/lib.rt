@@ -21,14 +21,14 @@ pub fn table() -> LogTable
 }
 
 // L of a frequency as a double, as `score::log`: from 1 to 1,024 it is read from the table.
+#[tactic(auto, using(crate::proofs::Places::entry_as_float))]
 pub fn log_by(table: &LogTable, n: u32) -> f64
     requires { is_log_table table.now ≡ true }
     ensures { result ≡ log_float n }
 {
-    if 1 <= n {
-        if n <= 1024 {
-            return table[(n - 1) as usize] as f64;
-        }
+    if (1..=1024).contains(&n) {
+        f64::from(table[n as usize - 1])
+    } else {
+        score::log(n)
     }
-    score::log(n)
 }

@@ -11,19 +11,10 @@ ghost use Rattle.book.specs.Returns.{lookup_of};
 ghost use Rattle.book.specs.Numbers.{found_returns, lookup_returns};
 ghost use Rattle.lookup.specs.Tests.{tested_word};
 
-use book::{Found, Head, Outcome};
-use trie::Got;
-use utf8::CharCount;
+use book::{Head, Refusal};
+use trie::{Slots, Tables};
 
-// What the tests of a word come to: what it is refused with, the empty word, or a word of one character or more.
-#[derive(Clone, Copy)]
-pub enum WordTest {
-    Refused(Outcome),
-    Empty,
-    Word,
-}
-
-// The tests of a word, by the lengths of a book's areas and its bytes.
+// The tests of a word, by the lengths of a book's areas and its bytes: how many characters it has, or what it is refused with.
 #[tactic(auto, using(crate::proofs::Tests::too_long))]
 pub fn test_word(
     roots: usize,
@@ -31,25 +22,20 @@ pub fn test_word(
     records: usize,
     logarithms: usize,
     word: &[u8],
-) -> WordTest
+) -> Result<usize, Refusal>
     ensures { result ≡ tested_word (areas_allowed roots slots records logarithms) word.now }
 {
     if !book::is_allowed(roots, slots, records, logarithms) {
-        return WordTest::Refused(Outcome::BadAreas);
+        return Err(Refusal::BadAreas);
     }
     if book::LONGEST_TEXT < word.len() {
-        return WordTest::Refused(Outcome::TooLong);
+        return Err(Refusal::TooLong);
     }
-    let CharCount::Chars(count) = utf8::char_count(word) else {
-        return WordTest::Refused(Outcome::Malformed);
-    };
-    if count == 0 {
-        return WordTest::Empty;
-    }
-    WordTest::Word
+    let count = utf8::char_count(word)?;
+    Ok(count)
 }
 
-// The frequency of a word.
+// The frequency of a word, or none where it is absent.
 pub fn lookup(
     head: Head,
     roots: &[u64],
@@ -57,29 +43,33 @@ pub fn lookup(
     records: &[u64],
     logarithms: &[f64],
     word: &[u8],
-) -> Found
+) -> Result<Option<u32>, Refusal>
     ensures value { result ≡ lookup_of (book_in head roots.now slots.now records.now logarithms.now) word.now }
     ensures result_value { found_returns result ≡ lookup_returns (book_in head roots.now slots.now records.now logarithms.now) word.now }
 {
-    match test_word(
+    let chars = test_word(
         roots.len(),
         slots.len(),
         records.len(),
         logarithms.len(),
         word,
-    ) {
-        WordTest::Refused(outcome) => return Found::NotLookedUp(outcome),
-        WordTest::Empty => return Found::Absent,
-        WordTest::Word => {}
+    )?;
+    if chars == 0 {
+        return Ok(None);
     }
     if book::is_head_damaged(head, records.len(), slots.len() / 2) {
-        return Found::NotLookedUp(Outcome::Damaged);
+        return Err(Refusal::Damaged);
     }
     let shift = trie::shift_of(slots.len() / 2);
+    let slots = Slots {
+        numbers: slots,
+        shift,
+    };
+    let tables = Tables { roots, slots };
     let used = head.records as usize;
-    match word_walk::get(roots, slots, shift, used, word) {
-        Got::Held(n) => Found::Frequency(book::cell_frequency(records[n])),
-        Got::Absent => Found::Absent,
-        Got::Damaged => Found::NotLookedUp(Outcome::Damaged),
+    match word_walk::get(tables, used, word) {
+        Ok(Some(n)) => Ok(Some(book::cell_frequency(records[n]))),
+        Ok(None) => Ok(None),
+        Err(_) => Err(Refusal::Damaged),
     }
 }

@@ -6,7 +6,7 @@ use Prim.Native.Nat.{ℕ}
 use native.Mathlib.Omega.{arith}
 use borrow.Author.Tests.{eq-eqb, ne_eqb}
 use lib.ListN.{length, set}
-use Rattle.book.specs.declared.Found.{Found}
+use Rattle.book.specs.Returns.{Found}
 use Rattle.book.specs.Numbers.{found_returns}
 use Rattle.cuts.specs.declared.TokenizeMode.TheVariants.{Default, Search}
 use Rattle.numbers.specs.Numbers.{head_length, found_as, search_mode, mode_of}

@@ -5,7 +5,7 @@ ghost use Rattle.std.specs.Prelude.{◌≡◌, length};
 ghost use Rattle.book.specs.Numbers.{found_returns};
 ghost use Rattle.numbers.specs.Numbers.{head_length, head_of, head_numbers, found_as, mode_of};
 
-use book::{Found, Head};
+use book::{Head, Refusal};
 use cuts::TokenizeMode;
 
 // The numbers of a head.
@@ -15,6 +15,7 @@ pub const HEAD_LENGTH: usize = 4;
 pub const SEARCH: u32 = 1;
 
 // What a lookup found: document 01's number, whether the word is held (1 or 0), and its frequency.
+// Kept: it crosses to C, which has no Option.
 #[derive(Clone, Copy)]
 pub struct FoundNumbers {
     pub number: u32,
@@ -47,22 +48,22 @@ pub fn write_head(head: &mut [u64], value: Head)
 }
 
 // What a lookup found, in numbers.
-pub fn found_numbers(found: Found) -> FoundNumbers
+pub fn found_numbers(found: Result<Option<u32>, Refusal>) -> FoundNumbers
     ensures { result ≡ found_as (found_returns found) }
 {
     match found {
-        Found::Frequency(frequency) => FoundNumbers {
+        Ok(Some(frequency)) => FoundNumbers {
             number: 0,
             held: 1,
             frequency,
         },
-        Found::Absent => FoundNumbers {
+        Ok(None) => FoundNumbers {
             number: 0,
             held: 0,
             frequency: 0,
         },
-        Found::NotLookedUp(outcome) => FoundNumbers {
-            number: book::number_of(outcome),
+        Err(refusal) => FoundNumbers {
+            number: book::number_of(Err(refusal)),
             held: 0,
             frequency: 0,
         },
@@ -70,6 +71,7 @@ pub fn found_numbers(found: Found) -> FoundNumbers
 }
 
 // The mode of a number.
+// Kept: a total function and no `TryFrom`, since the exports refuse what is no mode before (`is_mode`), with the areas as they are.
 pub fn mode_of(mode: u32) -> TokenizeMode
     ensures { result ≡ mode_of mode }
 {

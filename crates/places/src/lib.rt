@@ -21,7 +21,7 @@ pub fn set_bits(roots: &mut [u64], slots: &mut [u64], place: ParentRef, ch: u32)
             roots[i] = trie::with_child_bit(roots[i], bits.child);
         }
         ParentRef::Slot(i) => {
-            let key = arith::set_bit_u64(trie::key_at(slots, i), bits.key);
+            let key = arith::set_bit(trie::key_at(slots, i), bits.key);
             let link = trie::with_child_bit(trie::link_at(slots, i), bits.child);
             trie::set_key(slots, i, key);
             trie::set_link(slots, i, link);

@@ -11,21 +11,18 @@ use native.Mathlib.Omega.{arith}
 use lib.Ieee.{nan}
 use lib.ListN.{length, get_or, set, take, drop, length-set, length-append}
 use lib.Seq.{get_or-set_other}
+use Rattle.std.specs.Prelude.{Result, Ok, Err, Some, None}
 use Rattle.trie.specs.declared.ParentRef.{ParentRef}
 use Rattle.trie.specs.declared.ParentRef.TheVariants.{Root}
-use Rattle.trie.specs.declared.Step.{Step}
-use Rattle.trie.specs.declared.Step.TheVariants.{At, Nothing, Damaged}
-use Rattle.trie.specs.declared.WordNumber.{WordNumber}
-use Rattle.trie.specs.declared.WordNumber.TheVariants.{NoWord, Record, Bad}
-use Rattle.trie.specs.Trie.{CharTrie, SlotTable, tested_step, word_at, trie_of}
+use Rattle.trie.specs.Trie.{CharTrie, SlotTable, tested_step, word_at, trie_of, Step, WordNumber, damage}
 use Rattle.book.specs.Returns.{Book}
 use Rattle.book.specs.Prefixes.{Edge, Walked, ended, broken, words_from}
 use Rattle.book.proofs.Held.{record_in_use}
 use Rattle.route.specs.Slices.{edges_from}
 use Rattle.cuts.specs.Slices.{SeenAs}
 use Rattle.cuts.proofs.Walks.{Walk, at_root, at_end, at_nothing, at_damage, rest, on_from, past, at_bad, at_word}
-use Rattle.prefixes.specs.declared.Prefixes.{Prefixes}
-use Rattle.prefixes.specs.declared.Prefixes.TheVariants.{Edges, Full}
+use Rattle.prefixes.specs.declared.PrefixError.{PrefixError}
+use Rattle.prefixes.specs.declared.PrefixError.TheVariants.{Full, Damaged}
 use Rattle.prefixes.specs.Edges.{Kept, WalkedAt}
 use Rattle.prefixes.proofs.Slices.{after, after_one, after_ended, after_broken, edges_long, push_edge, one_more}
 
@@ -90,13 +87,13 @@ module _ {roots slots : List ℕ} {used : ℕ} {chars : List ℕ}
   so_many b = edges_long ends records b.logarithms taken (count - taken)
 
   -- what the function ensures, where it ends with r
-  abbrev Ensured : Prefixes → Type 0
+  abbrev Ensured : Result ℕ PrefixError → Type 0
   Ensured r =
       ((b : Book) → b.trie ≡ tables → b.head.records ≡ used → WalkedAt b n at room taken (words_from b at (drop at cs)) ends records r)
       × (Kept taken ends₀ ends × Kept taken records₀ records)
 
   -- nothing more is met: the edges so far are all
-  by_end : ((b : Book) → SeenAs b tables used → words_from b at (drop at cs) ≡ after (so_far b) ended) → Ensured (Edges count)
+  by_end : ((b : Book) → SeenAs b tables used → words_from b at (drop at cs) ≡ after (so_far b) ended) → Ensured (Ok count)
   by_end met = (
     λ b trie in_use. record {
       rising = here.rising;
@@ -110,7 +107,7 @@ module _ {roots slots : List ℕ} {used : ℕ} {chars : List ℕ}
   )
 
   -- damage is next: there was room for the edges so far
-  by_damage : ((b : Book) → SeenAs b tables used → words_from b at (drop at cs) ≡ after (so_far b) broken) → Ensured Prefixes.Damaged
+  by_damage : ((b : Book) → SeenAs b tables used → words_from b at (drop at cs) ≡ after (so_far b) broken) → Ensured (Err Damaged)
   by_damage met = (
     λ b trie in_use.
         let all = met b (record { same_trie = trie; records = in_use }) ∙ after_broken (so_far b) in
@@ -120,30 +117,30 @@ module _ {roots slots : List ℕ} {used : ℕ} {chars : List ℕ}
   )
 
   -- the block ends
-  pub ends_here : n ≤ next → Ensured (Edges count)
+  pub ends_here : n ≤ next → Ensured (Ok count)
   ends_here beyond = by_end (at_end here.walk long beyond)
 
   -- there is a character, and its step is taken
   module _ {r : Step} (more : next < n)
       (step : r ≡ tested_step (trie_of roots slots) place (get_or chars next 0)) where
     -- no step leads on
-    pub ends_nothing : r ≡ Nothing → Ensured (Edges count)
+    pub ends_nothing : r ≡ Ok None → Ensured (Ok count)
     ends_nothing e = by_end (at_nothing here.walk long more step e)
 
     -- a probe has no end
-    pub ends_damaged : r ≡ Damaged → Ensured Prefixes.Damaged
+    pub ends_damaged : r ≡ Err damage → Ensured (Err Damaged)
     ends_damaged e = by_damage (at_damage here.walk long more step e)
 
     -- the step leads to a place, and the word number there is read
-    module _ {q : ParentRef} (stepped : r ≡ At q) {number : WordNumber}
+    module _ {q : ParentRef} (stepped : r ≡ Ok (Some q)) {number : WordNumber}
         (read : number ≡ word_at used (trie_of roots slots) q) where
       -- a bad word number
-      pub ends_bad : number ≡ Bad → Ensured Prefixes.Damaged
+      pub ends_bad : number ≡ Err damage → Ensured (Err Damaged)
       ends_bad e = by_damage (at_bad here.walk long more step stepped read e)
 
       -- no word ends there
       pub goes_on : {shift : ℕ} → SlotTable (length slots) shift
-          → number ≡ NoWord
+          → number ≡ Ok None
           → Walking roots slots used chars n at room taken ends₀ records₀ ends records count q (next + 1)
       goes_on allowed e =
           record {
@@ -160,7 +157,7 @@ module _ {roots slots : List ℕ} {used : ℕ} {chars : List ℕ}
           }
 
       -- a word ends there
-      module _ {k : ℕ} (word : number ≡ Record k) where
+      module _ {k : ℕ} (word : number ≡ Ok (Some k)) where
         pub in_use_record : k < used
         in_use_record = record_in_use used k tables q (sym read ∙ word)
 
@@ -172,7 +169,7 @@ module _ {roots slots : List ℕ} {used : ℕ} {chars : List ℕ}
         onward b = rest here.walk long more step stepped b
 
         -- the word finds no place
-        pub ends_full : room ≤ count → Ensured Full
+        pub ends_full : room ≤ count → Ensured (Err Full)
         ends_full full = (
           λ b trie in_use.
               let all = at_word here.walk long more step stepped read word b (record { same_trie = trie; records = in_use }) in

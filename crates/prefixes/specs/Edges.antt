@@ -1,14 +1,14 @@
 -- A block's edges as they stand in slices: what the walks leave there, in the terms of `cuts/specs/Edges.antt`.
 -- Assumes nothing.
-use Rattle.std.specs.Prelude.{ℕ, ◌-◌, ◌≤◌, ◌<◌, true, false, List, ◌≡◌, length, get_or}
-use Rattle.book.specs.declared.Outcome.TheVariants.{EdgesFull}
-use Rattle.book.specs.declared.Outcome.TheVariants as Outcome
+use Rattle.std.specs.Prelude.{ℕ, ◌-◌, ◌≤◌, ◌<◌, true, false, List, ◌≡◌, length, get_or, Result, Ok, Err}
+use Rattle.book.specs.declared.Refusal.TheVariants.{EdgesFull}
+use Rattle.book.specs.declared.Refusal.TheVariants as Refusal
 use Rattle.book.specs.Returns.{Book}
 use Rattle.book.specs.Prefixes.{Walked, words_from}
 use Rattle.route.specs.Slices.{edges_from, rows_of, EdgesFit}
 use Rattle.cuts.specs.Edges.{edges, stopped, walks_of, edges_within}
-use Rattle.prefixes.specs.declared.Prefixes.{Prefixes}
-use Rattle.prefixes.specs.declared.Prefixes.TheVariants.{Edges, Full, Damaged}
+use Rattle.prefixes.specs.declared.PrefixError.{PrefixError}
+use Rattle.prefixes.specs.declared.PrefixError.TheVariants.{Full, Damaged}
 
 -- the places before one of them hold what they held
 abbrev pub Kept : ℕ → List ℕ → List ℕ → Type 0
@@ -25,15 +25,15 @@ pub record Pushed (b : Book) (n at room from to : ℕ) (walk : Walked) (ends rec
   pub known : (i : ℕ) → from ≤ i → i < to → get_or records i 0 < b.head.records
 
 -- what the walk from a position met, by what is answered, where so many places of the room are taken: "with 8 or 10 as it meets them"
-abbrev pub WalkedAt : Book → ℕ → ℕ → ℕ → ℕ → Walked → List ℕ → List ℕ → Prefixes → Type 0
-WalkedAt b n at room taken walk ends records (Edges count) = Pushed b n at room taken count walk ends records
-WalkedAt b n at room taken walk ends records Full = room - taken < length walk.edges
-WalkedAt b n at room taken walk ends records Damaged = (length walk.edges ≤ room - taken) × (walk.damaged ≡ true)
+abbrev pub WalkedAt : Book → ℕ → ℕ → ℕ → ℕ → Walked → List ℕ → List ℕ → Result ℕ PrefixError → Type 0
+WalkedAt b n at room taken walk ends records (Ok count) = Pushed b n at room taken count walk ends records
+WalkedAt b n at room taken walk ends records (Err Full) = room - taken < length walk.edges
+WalkedAt b n at room taken walk ends records (Err Damaged) = (length walk.edges ≤ room - taken) × (walk.damaged ≡ true)
 
 -- the same of a whole block: its edges are in the slices, as the route wants them, or the walk was stopped
-abbrev pub WalkedBlock : Book → ℕ → ℕ → List ℕ → List ℕ → List ℕ → List ℕ → Prefixes → Type 0
-WalkedBlock b n room chars starts ends records (Edges count) =
+abbrev pub WalkedBlock : Book → ℕ → ℕ → List ℕ → List ℕ → List ℕ → List ℕ → Result ℕ PrefixError → Type 0
+WalkedBlock b n room chars starts ends records (Ok count) =
     (edges_within room (walks_of (words_from b) 0 chars) ≡ edges (rows_of starts ends records b.logarithms n))
     × EdgesFit starts ends records (length b.logarithms) n
-WalkedBlock b n room chars starts ends records Full = edges_within room (walks_of (words_from b) 0 chars) ≡ stopped EdgesFull
-WalkedBlock b n room chars starts ends records Damaged = edges_within room (walks_of (words_from b) 0 chars) ≡ stopped Outcome.Damaged
+WalkedBlock b n room chars starts ends records (Err Full) = edges_within room (walks_of (words_from b) 0 chars) ≡ stopped (Err EdgesFull)
+WalkedBlock b n room chars starts ends records (Err Damaged) = edges_within room (walks_of (words_from b) 0 chars) ≡ stopped (Err Refusal.Damaged)

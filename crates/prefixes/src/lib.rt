@@ -5,31 +5,37 @@
 #![tactic(auto)]
 
 ghost use Rattle.std.specs.Prelude.{◌≡◌, ◌≤◌, ◌<◌, length, take, drop};
-ghost use Rattle.trie.specs.Trie.{trie_of, SlotTable};
+ghost use Rattle.trie.specs.Tables.{trie_in};
 ghost use Rattle.book.specs.Returns.{Book, longest_text, most_records};
 ghost use Rattle.book.specs.Prefixes.{words_from};
 ghost use Rattle.cuts.specs.Slices.{Characters};
 ghost use Rattle.prefixes.specs.Edges.{Kept, WalkedAt};
 
-use trie::{ParentRef, Step, WordNumber};
+use trie::{Damaged, ParentRef, Tables};
 
-// What a walk has left in the edge slices.
-#[derive(Clone, Copy)]
-pub enum Prefixes {
-    // All its edges, so many with those before them.
-    Edges(usize),
+// Why a walk has not left all its edges in the edge slices.
+#[derive(Clone, Copy, Debug, PartialEq, Eq)]
+pub enum PrefixError {
     // More edges than places.
     Full,
     // Damage, before an edge that found no place.
     Damaged,
 }
 
+impl From<Damaged> for PrefixError {
+    ghost use Rattle.prefixes.specs.declared.PrefixError.TheVariants.{Damaged};
+
+    ghost from_gives = { λ _ e. e ≡ Damaged };
+
+    fn from(_damaged: Damaged) -> PrefixError {
+        PrefixError::Damaged
+    }
+}
+
 // The words that start at a position of a block of n characters, after the edges before them: so many of the room's places are
-// taken. Ends rise.
+// taken. Ends rise. It answers how many are taken then.
 pub fn prefixes_at(
-    roots: &[u64],
-    slots: &[u64],
-    shift: u32,
+    tables: Tables,
     used: usize,
     chars: &[u32],
     n: usize,
@@ -38,44 +44,29 @@ pub fn prefixes_at(
     edge_records: &mut [u32],
     room: usize,
     taken: usize,
-) -> Prefixes
-    requires slot_table { SlotTable (length slots.now) shift }
+) -> Result<usize, PrefixError>
     requires at_lt_n { (at < n) × (n ≤ length chars.now) × (n ≤ longest_text) × Characters n chars.now }
     requires taken_le_room { (taken ≤ room) × (room ≤ length edge_ends.old) × (room ≤ length edge_records.old) × (used ≤ most_records) }
-    ensures walked_at { (b : Book) → b.trie ≡ trie_of roots.now slots.now → b.head.records ≡ used
+    ensures walked_at { (b : Book) → b.trie ≡ trie_in tables.entry → b.head.records ≡ used
         → WalkedAt b n at room taken (words_from b at (drop at (take n chars.now))) edge_ends.new edge_records.new result }
     ensures kept { Kept taken edge_ends.old edge_ends.new × Kept taken edge_records.old edge_records.new }
 {
     let mut count = taken;
     let mut place = ParentRef::Root;
-    let mut next = at;
-    while next < n {
-        match walk::tested_step(roots, slots, shift, place, chars[next]) {
-            Step::At(child) => {
-                place = child;
-                next += 1;
-            }
-            Step::Nothing => {
-                return Prefixes::Edges(count);
-            }
-            Step::Damaged => {
-                return Prefixes::Damaged;
-            }
+    for next in at..n {
+        let Some(child) = walk::tested_step(tables, place, chars[next])? else {
+            return Ok(count);
+        };
+        place = child;
+        let Some(record) = walk::word_at(tables.roots, tables.slots.numbers, used, place)? else {
+            continue;
+        };
+        if count == room {
+            return Err(PrefixError::Full);
         }
-        match walk::word_at(roots, slots, used, place) {
-            WordNumber::NoWord => {}
-            WordNumber::Record(record) => {
-                if count == room {
-                    return Prefixes::Full;
-                }
-                edge_ends[count] = next as u32;
-                edge_records[count] = record as u32;
-                count += 1;
-            }
-            WordNumber::Bad => {
-                return Prefixes::Damaged;
-            }
-        }
+        edge_ends[count] = (next + 1) as u32;
+        edge_records[count] = record as u32;
+        count += 1;
     }
-    Prefixes::Edges(count)
+    Ok(count)
 }

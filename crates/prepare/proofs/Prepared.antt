@@ -1,6 +1,7 @@
 -- What `prepare` answers, by the test of the sizes: the areas as they were, or each filled with zeros. Zeros are no children, no words and no keys to the
 -- views, and the areas of one part are equally long, so each fill is the empty book's part.
 -- Assumes nothing.
+use Rattle.std.specs.Prelude.{Ok, Err}
 use mathlib.Core.Path.{◌≡◌, sym, ◌∙◌}
 use mathlib.Core.Bool.{Bool, true, false}
 use mathlib.Core.List.{List}
@@ -12,8 +13,7 @@ use lib.ListN.{length, replicate}
 use Rattle.score.specs.Scores.{whole, float_of}
 use Rattle.trie.specs.Trie.{trie_of}
 use Rattle.trie.proofs.Packed.{length_children, keys_whole, no_children, no_words, no_keys, no_links}
-use Rattle.book.specs.declared.Outcome.TheVariants.{BadAreas}
-use Rattle.book.specs.declared.Prepared.TheVariants.{Ready, Refused}
+use Rattle.book.specs.declared.Refusal.TheVariants.{BadAreas}
 use Rattle.book.specs.Areas.{areas_allowed, book_of}
 use Rattle.book.specs.Returns.{sized, empty_head, empty_book, prepare_answer, prepare_of}
 use Rattle.book.proofs.Areas.{sized_lent, slots_whole, logarithms_same}
@@ -23,7 +23,7 @@ module _ (roots slots records : List ℕ) (l : List Float) (r : Bool)
   lengths : sized (book_of empty_head (trie_of roots slots) records l) ≡ r
   lengths = sym (sized_lent empty_head roots slots records l) ∙ sym e
 
-  pub refused : r ≡ false → prepare_answer (Refused BadAreas) (trie_of roots slots) records l ≡ prepare_of (trie_of roots slots) records l
+  pub refused : r ≡ false → prepare_answer (Err BadAreas) (trie_of roots slots) records l ≡ prepare_of (trie_of roots slots) records l
   unfolding prepare_of
   refused h = rw (lengths, h)
 
@@ -32,7 +32,7 @@ module _ (roots slots records : List ℕ) (l : List Float) (r : Bool)
       → slots₁ ≡ replicate (length slots) 0
       → records₁ ≡ replicate (length records) 0
       → l₁ ≡ replicate (length l) (float_of (whole (pos 0)))
-      → prepare_answer (Ready empty_head) (trie_of roots₁ slots₁) records₁ l₁ ≡ prepare_of (trie_of roots slots) records l
+      → prepare_answer (Ok empty_head) (trie_of roots₁ slots₁) records₁ l₁ ≡ prepare_of (trie_of roots slots) records l
   unfolding prepare_of empty_book
   ready roots₁ slots₁ records₁ l₁ h er es ec el =
       let areas = sym e ∙ h in

@@ -5,31 +5,11 @@
 #![tactic(auto)]
 
 ghost use Rattle.trie.specs.Trie.{trie_of};
-ghost use Rattle.std.specs.Prelude.{◌≡◌, length, replicate};
+ghost use Rattle.std.specs.Prelude.{◌≡◌};
 ghost use Rattle.book.specs.Returns.{prepare_answer, prepare_of};
 ghost use Rattle.book.specs.Numbers.{prepared_returns, prepare_returns};
 
-use book::{Head, Outcome, Prepared};
-
-fn fill_u64(s: &mut [u64], v: u64)
-    ensures { s.new ≡ replicate (length s.old) v }
-{
-    let mut i = 0;
-    while i < s.len() {
-        s[i] = v;
-        i += 1;
-    }
-}
-
-fn fill_f64(s: &mut [f64], v: f64)
-    ensures { s.new ≡ replicate (length s.old) v }
-{
-    let mut i = 0;
-    while i < s.len() {
-        s[i] = v;
-        i += 1;
-    }
-}
+use book::{Head, Refusal};
 
 // Makes an empty book of the areas, or refuses them and leaves them as they are. An area of zeros is an empty one: a word number
 // is stored with one added, so that 0 is that of no word.
@@ -38,19 +18,19 @@ pub fn prepare(
     slots: &mut [u64],
     records: &mut [u64],
     logarithms: &mut [f64],
-) -> Prepared
+) -> Result<Head, Refusal>
     ensures logarithms_value { prepare_answer result (trie_of roots.new slots.new) records.new logarithms.new
         ≡ prepare_of (trie_of roots.old slots.old) records.old logarithms.old }
     ensures result_value { prepared_returns result ≡ prepare_returns (trie_of roots.old slots.old) records.old logarithms.old }
 {
     if !book::is_allowed(roots.len(), slots.len(), records.len(), logarithms.len()) {
-        return Prepared::Refused(Outcome::BadAreas);
+        return Err(Refusal::BadAreas);
     }
-    fill_u64(roots, 0);
-    fill_u64(slots, 0);
-    fill_u64(records, 0);
-    fill_f64(logarithms, 0.0);
-    Prepared::Ready(Head {
+    roots.fill(0);
+    slots.fill(0);
+    records.fill(0);
+    logarithms.fill(0.0);
+    Ok(Head {
         records: 0,
         slots: 0,
         next: 1,

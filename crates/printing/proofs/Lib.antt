@@ -1,3 +1,2 @@
 -- The laws by which the functions of `printing` meet their contracts.
-pub mod Digits
 pub mod Lines

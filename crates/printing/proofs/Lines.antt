@@ -1,31 +1,66 @@
 -- An answer's line, piece by piece: what is written first and what is written after it. Assumes nothing.
-use Prim.Native.Nat.{ℕ, suc, ◌+◌, ◌*◌, ◌/◌, ◌%◌, ◌≤◌, ◌<◌}
+use Prim.Native.Nat.{ℕ, zero, suc, ◌+◌, ◌-◌, ◌*◌, ◌/◌, ◌%◌, ◌≤◌, ◌<◌}
 use mathlib.Core.List.{List, [], ◌∷◌, ◌++◌}
 use mathlib.Core.Path.{◌≡◌, refl, sym, ap, ◌∙◌}
 use native.Mathlib.Numerals.{add-one}
 use native.Mathlib.Omega.{arith}
-use lib.ListN.{length, get_or, set, drop, length-append}
+use lib.ListN.{length, get_or, set, drop, length-append, length-set}
 use lib.Seq.{sets, length-sets, drop-cons, drop-length}
-use Rattle.printing.specs.Answers.{digit_of, two, four, fours, line_end, line_of, no_frame_line, Put}
+use Rattle.std.proofs.Common.{◌≢◌}
+use Rattle.std.proofs.lemmas.List.{set_comm}
+use Rattle.printing.specs.Answers.{digit_of, digits, two, four, fours, line_end, line_of, Put}
+
+-- ---- one thing after another
+
+sets_append : (out : List ℕ) (at : ℕ) (xs ys : List ℕ) → sets (sets out at xs) (at + length xs) ys ≡ sets out at (xs ++ ys)
+sets_append out at [] ys = ap (λ (k : ℕ). sets out k ys) (omega arith)
+sets_append out at (x ∷ xs) ys =
+    let next : at + suc (length xs) ≡ suc at + length xs = omega arith in
+    rw next (sets_append (set out at x) (suc at) xs ys)
+
+-- what is written after something
+pub after : (out xs out' ys : List ℕ) (at at' : ℕ) → out' ≡ sets out at xs → at' ≡ at + length xs → sets out' at' ys ≡ sets out at (xs ++ ys)
+after out xs out' ys at at' e place = rw (e, place) (sets_append out at xs ys)
 
 -- ---- digits
 
-pub two_put : (out : List ℕ) (at n a b : ℕ) → a ≡ digit_of (n / 16 % 16) → b ≡ digit_of (n % 16) → set (set out at a) (at + 1) b ≡ sets out at (two n)
-two_put out at n a b d e = rw (add-one, d, e)
+pub length_digits : (k n : ℕ) → length (digits k n) ≡ k
+unfolding digits
+length_digits zero n = refl
+length_digits (suc k) n = rw (length-append (digits k (n / 16)) (digit_of (n % 16) ∷ []), length_digits k (n / 16)) (omega arith)
 
-pub four_put : (out : List ℕ) (at n a b c d : ℕ)
-    → a ≡ digit_of (n / 4096 % 16) → b ≡ digit_of (n / 256 % 16) → c ≡ digit_of (n / 16 % 16) → d ≡ digit_of (n % 16)
-    → set (set (set (set out at a) (at + 1) b) (at + 2) c) (at + 3) d ≡ sets out at (four n)
-four_put out at n a b c d e f g h =
-    let one : at + 1 ≡ suc at = omega arith in
-    let two : at + 2 ≡ suc (suc at) = omega arith in
-    let three : at + 3 ≡ suc (suc (suc at)) = omega arith in
-    rw (one, two, three, e, f, g, h)
+-- the last of what is written may be written first
+sets_last : (out : List ℕ) (at : ℕ) (xs : List ℕ) (d i : ℕ) → i ≡ at + length xs → sets (set out i d) at xs ≡ sets out at (xs ++ (d ∷ []))
+sets_last out at [] d i e = let same : i ≡ at = omega arith in rw same
+sets_last out at (x ∷ xs) d i e =
+    let apart : i ≢ at = omega arith in
+    rw (set_comm out i at d x apart) (sets_last (set out at x) (suc at) xs d i (omega arith))
+
+-- what `put_digits` has written, from the last digit on, with the digits that are left makes the whole
+pub record Filling (before : List ℕ) (at width n : ℕ) (out : List ℕ) (i rest : ℕ) : Type 0 where
+  pub whole : sets out at (digits (i - at) rest) ≡ sets before at (digits width n)
+  pub long : length out ≡ length before
+
+module _ (before : List ℕ) (at width n : ℕ) (out : List ℕ) (i rest : ℕ) where
+  pub digit_put : Filling before at width n out i rest → at < i → (d : ℕ) → d ≡ digit_of (rest % 16)
+      → Filling before at width n (set out (i - 1) d) (i - 1) (rest / 16)
+  unfolding digits
+  digit_put so_far from d is = record {
+    whole =
+        let k : i - at ≡ suc (i - 1 - at) = omega arith in
+        let long = length_digits (i - 1 - at) (rest / 16) in
+        sets_last out at (digits (i - 1 - at) (rest / 16)) d (i - 1) (omega arith) ∙ rw is (rw k at so_far.whole);
+    long = length-set out (i - 1) d ∙ so_far.long;
+  }
+
+  pub digits_put : Filling before at width n out i rest → i ≤ at → out ≡ sets before at (digits width n)
+  unfolding digits
+  digits_put so_far end = let none : i - at ≡ 0 = omega arith in rw none at so_far.whole
 
 pub fours_length : (numbers : List ℕ) → length (fours numbers) ≡ 4 * length numbers
 unfolding fours
 fours_length [] = refl
-fours_length (n ∷ numbers) = omega (arith, fours_length numbers)
+fours_length (n ∷ numbers) = rw (length-append (four n) (fours numbers), length_digits 4 n) (omega (arith, fours_length numbers))
 
 -- ---- the loop of `put_fours`: what is written, with what is left of the numbers, makes the whole
 
@@ -34,15 +69,12 @@ pub record Putting (numbers before : List ℕ) (from : ℕ) (out : List ℕ) (at
   pub place : at ≡ from + 4 * i
   pub long : length out ≡ length before
 
-pub putting : (numbers out : List ℕ) (from : ℕ) → Putting numbers out from out from 0
-putting numbers out from = record { whole = refl; place = omega arith; long = refl }
-
 one_number : (numbers out : List ℕ) (at i n : ℕ) → n ≡ get_or numbers i 0 → i < length numbers
     → sets (sets out at (four n)) (at + 4) (fours (drop (i + 1) numbers)) ≡ sets out at (fours (drop i numbers))
 unfolding fours
 one_number numbers out at i n e inside =
-    let next : at + 4 ≡ suc (suc (suc (suc at))) = omega arith in
-    rw (add-one, drop-cons numbers i 0 inside, e, next)
+    rw (add-one, drop-cons numbers i 0 inside, ← e)
+    (after out (four n) (sets out at (four n)) (fours (drop (suc i) numbers)) at (at + 4) refl (omega (arith, length_digits 4 n)))
 
 module _ (numbers before out : List ℕ) (from at i : ℕ) (so_far : Putting numbers before from out at i) where
   pub one_more : (n : ℕ) (after : List ℕ) → i < length numbers → n ≡ get_or numbers i 0 → after ≡ sets out at (four n)
@@ -64,31 +96,23 @@ module _ (numbers before out : List ℕ) (from at i : ℕ) (so_far : Putting num
 
 -- ---- a whole line
 
-sets_append : (out : List ℕ) (at : ℕ) (xs ys : List ℕ) → sets (sets out at xs) (at + length xs) ys ≡ sets out at (xs ++ ys)
-sets_append out at [] ys = ap (λ (k : ℕ). sets out k ys) (omega arith)
-sets_append out at (x ∷ xs) ys =
-    let next : at + suc (length xs) ≡ suc at + length xs = omega arith in
-    rw next (sets_append (set out at x) (suc at) xs ys)
-
-pub no_frame_put : (out : List ℕ) (at : ℕ) → Put out at no_frame_line (set (set (set out at 0x66) (at + 1) 0x65) (at + 2) line_end) (at + 3)
-no_frame_put out at =
-    let one : at + 1 ≡ suc at = omega arith in
-    let two : at + 2 ≡ suc (suc at) = omega arith in
-    record { area = rw (one, two); ends = refl }
-
--- what is written after something
-pub after : (out xs out' ys : List ℕ) (at at' : ℕ) → out' ≡ sets out at xs → at' ≡ at + length xs → sets out' at' ys ≡ sets out at (xs ++ ys)
-after out xs out' ys at at' e place = rw (e, place) (sets_append out at xs ys)
-
 -- number, count, numbers and the line's end
-pub line_put : (out : List ℕ) (at n m count : ℕ) (numbers one more most : List ℕ) (end : ℕ)
-    → m ≡ n → one ≡ sets out at (two m) → more ≡ sets one (at + 2) (four count) → Put more (at + 6) (fours numbers) most end
+pub line_put : (out : List ℕ) (at n count : ℕ) (numbers one more most : List ℕ) (end : ℕ)
+    → one ≡ sets out at (two n) → more ≡ sets one (at + 2) (four count) → Put more (at + 6) (fours numbers) most end
     → Put out at (line_of n count numbers) (set most end line_end) (end + 1)
 unfolding line_of
-line_put out at n m count numbers one more most end same first second third = record {
+line_put out at n count numbers one more most end first second third = record {
   area =
       after more (fours numbers) most (line_end ∷ []) (at + 6) end third.area third.ends
-      ∙ after one (four count) more (fours numbers ++ (line_end ∷ [])) (at + 2) (at + 6) second (omega arith)
-      ∙ after out (two n) one (four count ++ (fours numbers ++ (line_end ∷ []))) at (at + 2) (rw (← same) first) refl;
-  ends = omega (arith, third.ends, length-append (fours numbers) (line_end ∷ []));
+      ∙ after one (four count) more (fours numbers ++ (line_end ∷ [])) (at + 2) (at + 6) second (omega (arith, length_digits 4 count))
+      ∙ after out (two n) one (four count ++ (fours numbers ++ (line_end ∷ []))) at (at + 2) first (omega (arith, length_digits 2 n));
+  ends = omega (
+    arith,
+    third.ends,
+    length_digits 2 n,
+    length_digits 4 count,
+    length-append (two n) (four count ++ (fours numbers ++ (line_end ∷ []))),
+    length-append (four count) (fours numbers ++ (line_end ∷ [])),
+    length-append (fours numbers) (line_end ∷ []),
+  );
 }

@@ -1,16 +1,21 @@
 -- The answer to a frame as a line of bytes: document 01, "Examples by book", "Program `cutlines`": "one line in lowercase hexadecimal".
 -- Assumes nothing.
-use Rattle.std.specs.Prelude.{ℕ, ◌+◌, ◌/◌, ◌%◌, cond, List, [], ◌∷◌, ◌++◌, ◌≡◌, ltb, length}
+use Rattle.std.specs.Prelude.{ℕ, zero, suc, ◌+◌, ◌/◌, ◌%◌, cond, List, [], ◌∷◌, ◌++◌, ◌≡◌, ltb, length}
 use Rattle.std.proofs.lemmas.List.Edits.{sets}
 
 abbrev pub digit_of : ℕ → ℕ
 digit_of n = cond (ltb n 10) (0x30 + n) (0x57 + n)
 
+-- the last so many digits of a number
+unfoldable pub digits : ℕ → ℕ → List ℕ
+digits zero n = []
+digits (suc k) n = digits k (n / 16) ++ (digit_of (n % 16) ∷ [])
+
 abbrev pub two : ℕ → List ℕ
-two n = digit_of (n / 16 % 16) ∷ digit_of (n % 16) ∷ []
+two n = digits 2 n
 
 abbrev pub four : ℕ → List ℕ
-four n = digit_of (n / 4096 % 16) ∷ digit_of (n / 256 % 16) ∷ digit_of (n / 16 % 16) ∷ digit_of (n % 16) ∷ []
+four n = digits 4 n
 
 unfoldable pub fours : List ℕ → List ℕ
 fours [] = []

@@ -20,6 +20,7 @@ pub struct RouteEntry {
 }
 
 // While choosing: no edge yet, or the best edge with its score, end and record.
+// Kept: document 01 names this enum ("Rust forms to recast") in place of `Option<RouteEntry>`.
 #[derive(Clone, Copy)]
 pub enum Choice {
     NoEdge,
@@ -27,6 +28,7 @@ pub enum Choice {
 }
 
 // The record number of a step that is no word.
+// Kept: it stands in a lent area of numbers, which C lends too, so that it is a number and no Option.
 pub const NO_RECORD: u32 = 4_294_967_295;
 
 // The choice after one more edge, to a position of the given score. Greater score wins, then larger end. No comparison with a

@@ -13,8 +13,7 @@ use native.Mathlib.Numerals.{add-one}
 use native.Mathlib.Omega.{arith}
 use lib.ListN.{length, get_or, set, take, length-set}
 use lib.Seq.{length-take-le, take-take, take-set-le, take-suc-set, get_or-set_same, get_or-set_other}
-use Rattle.utf8.specs.declared.Character.TheVariants.{Char}
-use Rattle.utf8.specs.Characters.{character_at}
+use Rattle.utf8.specs.Characters.{char, character_at}
 use Rattle.utf8.specs.Text.{before, chars_from}
 use Rattle.utf8.specs.Encoding.{encode, byte_length}
 use Rattle.utf8.specs.Utf16.{units_of, unit_length}
@@ -38,7 +37,7 @@ text_after c (some cs) some_rest = refl
 
 module _ (s : List ℕ) (at : ℕ) where
   -- a character, and then the text after it
-  pub text_char : (c w u : ℕ) → character_at s at ≡ Char c w u → IsSome (chars_from s at) → text_from s at ≡ c ∷ text_from s (at + w)
+  pub text_char : (c w u : ℕ) → character_at s at ≡ char c w u → IsSome (chars_from s at) → text_from s at ≡ c ∷ text_from s (at + w)
   unfolding text_from
   text_char c w u read well_formed =
       rw (text_from, from_char s at c w u read) (text_after c (chars_from s (at + w)) (still_chars s at well_formed c w u read))
@@ -139,7 +138,7 @@ module _ (class : ℕ → Bool) (s : List ℕ) (at from : ℕ) (matched : Bool) 
           ap (λ (p : ℕ). p / 2 ^ 32) so_far.place ∙ high_part (at + byte_length (take n chars)) (from + unit_length (take n chars)) below
 
     -- one more character, of the run's kind, and how far it goes
-    module _ (c w u : ℕ) (read : character_at s end ≡ Char c w u) (same : class c ≡ matched) (step : ℕ) (is_step : step ≡ packed w u) where
+    module _ (c w u : ℕ) (read : character_at s end ≡ char c w u) (same : class c ≡ matched) (step : ℕ) (is_step : step ≡ packed w u) where
       fits_chars : n < length chars
       fits_chars = omega (arith, few, so_far.chars_long)
 
@@ -217,7 +216,7 @@ module _ (class : ℕ → Bool) (s : List ℕ) (at from : ℕ) (matched : Bool) 
     ends_with_text past = rw (text_end s end past) (ends_at_end class matched)
 
     pub ends_at_character : (c w u : ℕ) (answer : Bool)
-        → character_at s end ≡ Char c w u
+        → character_at s end ≡ char c w u
         → answer ≡ class c
         → not (beq answer matched) ≡ true
         → EndsBefore class matched (text_from s end)

@@ -71,6 +71,7 @@ pub fn next_recording(
     let mut n: usize = 0;
     let mut end = at;
     let mut reached = place(at, from);
+    // Kept: each turn goes on by the width of the character that `next_char` read, which no `for` counts.
     while end < s.len() {
         let next = utf8::next_char(s, end);
         let of_class = classify(class, next.value);

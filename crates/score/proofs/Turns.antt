@@ -74,9 +74,6 @@ module _ (n p bits left : ℕ) (squared : Squared n p bits left) (more : 0 < lef
       let small : 2 ^ (left - 1) ≤ 2 ^ 23 = pow_mono within in
       (small, omega arith)
 
-  pub bit_fits : bits + 1 * 2 ^ (left - 1) % 2 ^ 64 < 2 ^ 64
-  bit_fits = omega (arith, worth, squared.turns.small)
-
   module _ (p' : ℕ) where
     pub turn_one : (bits' : ℕ) → 2 ^ 63 ≤ p → p' ≡ (p / 2 ^ 32) * (p / 2 ^ 32) → bits' ≡ bits + 1 * 2 ^ (left - 1) % 2 ^ 64 → Squared n p' bits' (left - 1)
     turn_one bits' passed next bits_next =
@@ -100,9 +97,6 @@ module _ (n p bits left : ℕ) (squared : Squared n p bits left) (more : 0 < lef
           square = rw whole at next;
           turns = turned n squared.m bits left (p / 2 ^ 31) bits squared.turns more (rw same (sym outcome.1)) (omega (arith, none));
         }
-
-pub squared_below : (n p bits left : ℕ) → Squared n p bits left → p < 2 ^ 64
-squared_below n p bits left squared = rw squared.square (square_below squared.m squared.turns.normal.high)
 
 -- the squares fit the code's 64 bits
 pub square_fits : (x : ℕ) → x < 2 ^ 32 → Fits w64 (x * x)

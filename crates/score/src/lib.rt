@@ -12,8 +12,11 @@ ghost use Rattle.score.specs.Logarithm.{log_of, log_float};
 pub fn minus_infinity() -> f64
     ensures { result ≡ float_of minus_infinity }
 {
-    f64::from_bits(0xfff0_0000_0000_0000)
+    f64::NEG_INFINITY
 }
+
+// The square p of a significand stands for p / 2^62, and this one for 2.
+const TWO: u64 = 0x8000_0000_0000_0000;
 
 // L of an n of at least 1, as a whole number. m / 2^31 is n less its power of two, from 1 to below 2, and p is its square, which
 // has twice the logarithm: the next bit is whether p is 2^63 or more. The squares that may come next are both worked out before
@@ -24,25 +27,23 @@ pub fn log_scaled(n: u32) -> u64
     requires { 0 < n }
     ensures { result ≡ log_of n }
 {
-    let zeros = u32::leading_zeros(n);
-    let m = (n as u64) << zeros;
+    let zeros = n.leading_zeros();
+    let m = u64::from(n) << zeros;
     let mut p = m * m;
     let mut bits: u64 = 0;
-    let mut left: u32 = 24;
-    while 0 < left {
+    for place in (0..24u32).rev() {
         let high = p >> 32;
         let low = (p >> 31) % 0x1_0000_0000;
         let after_one = high * high;
         let after_zero = low * low;
-        left -= 1;
-        if p >= 0x8000_0000_0000_0000 {
+        if p >= TWO {
             p = after_one;
-            bits += 1u64 << left;
+            bits += 1 << place;
         } else {
             p = after_zero;
         }
     }
-    (31 - zeros) as u64 * 0x100_0000 + bits
+    u64::from(31 - zeros) * 0x100_0000 + bits
 }
 
 // L of a frequency or of a total, as the double that the scores are summed from.

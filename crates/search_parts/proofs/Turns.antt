@@ -1,15 +1,13 @@
 -- The loop of `emit_parts`: the parts that are left, put after what is written so far, come to what all of the token's parts come to, wherever the block
 -- stands. Assumes nothing.
+use Rattle.std.specs.Prelude.{Result, Ok, Err}
 use Prim.Native.Nat.{ℕ, ◌+◌, ◌≤◌, ◌<◌}
-use mathlib.Core.Bool.{true, false}
 use mathlib.Core.List.{List, [], ◌∷◌}
 use mathlib.Core.Path.{◌≡◌, refl, sym, ap, ◌∙◌}
 use native.Mathlib.Omega.{arith}
 use lib.ListN.{length, take}
-use Rattle.book.specs.declared.Outcome.TheVariants.{Done}
-use Rattle.book.specs.Returns.{is_done}
 use Rattle.classes.specs.Tokens.{ascii_letter}
-use Rattle.cuts.specs.declared.Cut.{Cut}
+use Rattle.cuts.specs.declared.CutError.{CutError}
 use Rattle.cuts.specs.Slices.{Placed}
 use Rattle.cuts.specs.Tokens.{Span, span, any_of, those, chars_between, searchable, parts_of, Base, written}
 use Rattle.cuts.specs.Cuts.{CutAnswer, answer, cut_answer, put_spans}
@@ -35,7 +33,7 @@ module _ (chars offsets : List ℕ) (base x y : ℕ) (area₀ : List ℕ) (count
 
   module _ (in_chars : y ≤ length chars) {part : Part} (first : PartFrom chars x y part) where
     -- the first part is the token
-    pub no_parts : part.end ≡ y → AllParts (answer Done (written count₀ area₀))
+    pub no_parts : part.end ≡ y → AllParts (answer (Ok tt) (written count₀ area₀))
     no_parts there place n inside known =
         all_put place (take n chars) (written count₀ area₀) {spans = parts_of (take n chars) (span x y)} refl
         (whole (take n chars) y (block_long chars n y inside in_chars) (in_block chars n inside in_chars first) there)
@@ -52,7 +50,7 @@ module _ (chars offsets : List ℕ) (base x y : ℕ) (area₀ : List ℕ) (count
         }
 
   -- a part, which `emit_part` answers with r
-  module _ (in_chars : y ≤ length chars) {area : List ℕ} {count from : ℕ} {part : Part} (here : PartsPut area count from part) (r : Cut) (after : List ℕ)
+  module _ (in_chars : y ≤ length chars) {area : List ℕ} {count from : ℕ} {part : Part} (here : PartsPut area count from part) (r : Result ℕ CutError) (after : List ℕ)
       (put : (place : Base) (cs : List ℕ) → Placed place base cs offsets → part.end ≤ length cs
       → part.lettered ≡ any_of ascii_letter (chars_between cs (span from part.end))
       → cut_answer r after ≡ put_spans place cs (written count area) (those (λ p. searchable (chars_between cs p)) (span from part.end ∷ []))) where
@@ -73,13 +71,13 @@ module _ (chars offsets : List ℕ) (base x y : ℕ) (area₀ : List ℕ) (count
       put_in : cut_answer r after ≡ put_spans place (take n chars) (written count area) (now n)
       put_in = put place (take n chars) known (omega (arith, ended, block)) found_in.letters
 
-    pub part_refused : part.end < y → is_done r.outcome ≡ false → AllParts (cut_answer r after)
+    pub part_refused : part.end < y → {e : CutError} → r ≡ Err e → AllParts (cut_answer (Err e) after)
     part_refused h e place n inside known =
         stops_there place (take n chars) (written count area) (here.same place n inside known) (now n) _
         (part_then (take n chars) y (block place n inside known) (found_in place n inside known) h) r after (put_in place n inside known) e
 
-    pub part_put : part.end < y → is_done r.outcome ≡ true → length after ≡ length area
-        → {next : Part} → PartFrom chars (part.end + 1) y next → PartsPut after r.count (part.end + 1) next
+    pub part_put : part.end < y → {m : ℕ} → r ≡ Ok m → length after ≡ length area
+        → {next : Part} → PartFrom chars (part.end + 1) y next → PartsPut after m (part.end + 1) next
     part_put h e kept found =
         record {
           found = found;

@@ -14,8 +14,7 @@ ghost use Rattle.cuts.specs.Tokens.{span, any_of, those, chars_between, searchab
 ghost use Rattle.cuts.specs.Cuts.{cut_answer, put_spans};
 ghost use Rattle.search_parts.specs.Parts.{PartFrom};
 
-use book::Outcome;
-use cuts::Cut;
+use cuts::CutError;
 
 // A part of a token, from where it starts.
 #[derive(Clone, Copy)]
@@ -41,19 +40,17 @@ fn next_part(chars: &[u32], from: usize, to: usize) -> Part
     requires { (from ≤ to) × (to ≤ length chars.now) }
     ensures { PartFrom chars.now from to result }
 {
-    let mut end = from;
     let mut lettered = false;
-    while end < to {
+    for end in from..to {
         let c = chars[end];
         if classes::is_connector(c) {
-            break;
+            return Part { end, lettered };
         }
         if is_ascii_alphabetic(c) {
             lettered = true;
         }
-        end += 1;
     }
-    Part { end, lettered }
+    Part { end: to, lettered }
 }
 
 // Writes a part, if it is one to search for: of at least 2 bytes, with an ASCII letter.
@@ -64,7 +61,7 @@ fn emit_part(
     part: Part,
     tokens: &mut [u32],
     count: usize,
-) -> Cut
+) -> Result<usize, CutError>
     requires { (from ≤ part.end) × (part.end < length offsets.now) × (base + part.end ≤ longest_text) }
     ensures { (place : Base) (cs : List ℕ) → Placed place base cs offsets.now → part.end ≤ length cs
         → part.lettered ≡ any_of ascii_letter (chars_between cs (span from part.end))
@@ -78,10 +75,7 @@ fn emit_part(
             return tokens::emit_span(offsets, base, from, end, tokens, count);
         }
     }
-    Cut {
-        outcome: Outcome::Done,
-        count,
-    }
+    Ok(count)
 }
 
 // The parts of the token from x up to y, between its connectors. A token without one is its own only part, and brings none.
@@ -93,7 +87,7 @@ pub fn emit_parts(
     y: usize,
     tokens: &mut [u32],
     count: usize,
-) -> Cut
+) -> Result<usize, CutError>
     requires { (x ≤ y) × (y ≤ length chars.now) × (y < length offsets.now) × (base + y ≤ longest_text) }
     ensures { (place : Base) (n : ℕ) → y ≤ n → Placed place base (take n chars.now) offsets.now
         → cut_answer result tokens.new ≡ put_spans place (take n chars.now) (written count tokens.old) (parts_of (take n chars.now) (span x y)) }
@@ -102,18 +96,11 @@ pub fn emit_parts(
     let mut from = x;
     let mut part = next_part(chars, x, y);
     if part.end == y {
-        return Cut {
-            outcome: Outcome::Done,
-            count,
-        };
+        return Ok(count);
     }
+    // Kept: each turn goes on behind the part that `next_part` found, which no `for` counts: a hand-written iterator would be longer.
     while part.end < y {
-        let put = emit_part(offsets, base, from, part, tokens, count);
-        let outcome = put.outcome;
-        count = put.count;
-        if !book::is_done(outcome) {
-            return Cut { outcome, count };
-        }
+        count = emit_part(offsets, base, from, part, tokens, count)?;
         from = part.end + 1;
         part = next_part(chars, from, y);
     }

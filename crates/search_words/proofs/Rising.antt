@@ -1,6 +1,7 @@
 -- The ends of a position's edges rise: each further step of a walk ends one character further on. So the edges that a block's walks leave in the slices are
 -- as `word_at` wants them.
 -- Assumes nothing.
+use Rattle.std.specs.Prelude.{Err}
 use Prim.Native.Nat.{ℕ, zero, suc, ◌+◌, ◌-◌, ◌≤◌, ◌<◌}
 use mathlib.Core.Bool.{Bool, true, false}
 use mathlib.Core.List.{List, [], ◌∷◌}
@@ -9,16 +10,13 @@ use native.Mathlib.Omega.{arith}
 use lib.Dec.{ltb}
 use lib.Ieee.{Float}
 use lib.ListN.{length, get_or}
+use Rattle.std.specs.Prelude.{Ok, Err, Some, None}
 use Rattle.score.proofs.Tests.{by_leb}
 use Rattle.trie.specs.declared.ParentRef.{ParentRef}
 use Rattle.trie.specs.declared.ParentRef.TheVariants.{Root}
-use Rattle.trie.specs.declared.Step.{Step}
-use Rattle.trie.specs.declared.Step.TheVariants.{At, Nothing, Damaged}
-use Rattle.trie.specs.declared.WordNumber.{WordNumber}
-use Rattle.trie.specs.declared.WordNumber.TheVariants.{NoWord, Record, Bad}
-use Rattle.trie.specs.Trie.{tested_step, word_at}
-use Rattle.book.specs.declared.Outcome.TheVariants.{EdgesFull}
-use Rattle.book.specs.declared.Outcome.TheVariants as Outcome
+use Rattle.trie.specs.Trie.{tested_step, word_at, Step, WordNumber}
+use Rattle.book.specs.declared.Refusal.TheVariants.{EdgesFull}
+use Rattle.book.specs.declared.Refusal.TheVariants as Refusal
 use Rattle.book.specs.Returns.{Book}
 use Rattle.book.specs.Prefixes.{Edge, Walked, ended, broken, met_before, walk_on, words_from}
 use Rattle.route.specs.Slices.{edges_from, rows_of, EdgesFit}
@@ -38,9 +36,9 @@ earlier a b (e ∷ es) h rise = (omega (arith, rise.0), rise.1)
 -- ---- a walk
 
 met_rises : (b : Book) (number : WordNumber) (at : ℕ) (w : Walked) → RisingFrom (at + 1) w.edges → RisingFrom at (met_before b number (at + 1) w).edges
-met_rises b NoWord at w rise = earlier at (at + 1) w.edges (omega arith) rise
-met_rises b (Record n) at w rise = (omega arith, rise)
-met_rises b Bad at w rise = tt
+met_rises b (Ok None) at w rise = earlier at (at + 1) w.edges (omega arith) rise
+met_rises b (Ok (Some n)) at w rise = (omega arith, rise)
+met_rises b (Err d) at w rise = tt
 
 walk_rises : (b : Book) (p : ParentRef) (at : ℕ) (cs : List ℕ) → RisingFrom at (walk_on b p at cs).edges
 unfolding walk_on
@@ -49,13 +47,13 @@ walk_rises b p at (c ∷ cs) = by (tested_step b.trie p c) (λ q. walk_rises b q
   where
     by : (s : Step) → ((q : ParentRef) → RisingFrom (at + 1) (walk_on b q (at + 1) cs).edges)
         → RisingFrom at (elim s as (λ _. Walked) [
-          | At q ↦ met_before b (word_at b.head.records b.trie q) (at + 1) (walk_on b q (at + 1) cs)
-          | Nothing ↦ ended
-          | Damaged ↦ broken
+          | Ok (Some q) ↦ met_before b (word_at b.head.records b.trie q) (at + 1) (walk_on b q (at + 1) cs)
+          | Ok None ↦ ended
+          | Err d ↦ broken
         ]).edges
-    by (At q) next = met_rises b (word_at b.head.records b.trie q) at (walk_on b q (at + 1) cs) (next q)
-    by Nothing next = tt
-    by Damaged next = tt
+    by (Ok (Some q)) next = met_rises b (word_at b.head.records b.trie q) at (walk_on b q (at + 1) cs) (next q)
+    by (Ok None) next = tt
+    by (Err d) next = tt
 
 -- ---- the walks of a block
 
@@ -100,8 +98,8 @@ rows_rise (w ∷ ws) at room k all = by (ltb room (length w.edges)) w.damaged k 
         → RisingFrom (at + k)
         (get_or
         (rows_in (elim full as (λ _. Edges) [
-          | true ↦ stopped EdgesFull
-          | false ↦ elim damaged as (λ _. Edges) [ true ↦ stopped Outcome.Damaged | false ↦ before w.edges rest ]
+          | true ↦ stopped (Err EdgesFull)
+          | false ↦ elim damaged as (λ _. Edges) [ true ↦ stopped (Err Refusal.Damaged) | false ↦ before w.edges rest ]
         ]))
         k [])
     by true damaged k next = tt

@@ -1,17 +1,15 @@
 -- The loop of `emit_words`: the words that are left, put after what is written so far, come to what all of the token's words of the size come to, wherever
 -- the block stands. Assumes nothing.
+use Rattle.std.specs.Prelude.{Result, Ok, Err}
 use Prim.Native.Nat.{ℕ, ◌+◌, ◌-◌, ◌≤◌, ◌<◌}
-use mathlib.Core.Bool.{true, false}
 use mathlib.Core.List.{List, [], ◌∷◌}
 use mathlib.Core.Path.{◌≡◌, refl, sym, ap, ◌∙◌}
 use native.Mathlib.Nat.{le_refl}
 use native.Mathlib.Omega.{arith}
 use lib.Ieee.{Float}
 use lib.ListN.{length}
-use Rattle.book.specs.declared.Outcome.TheVariants.{Done}
-use Rattle.book.specs.Returns.{is_done}
 use Rattle.route.specs.Slices.{rows_of}
-use Rattle.cuts.specs.declared.Cut.{Cut}
+use Rattle.cuts.specs.declared.CutError.{CutError}
 use Rattle.cuts.specs.Slices.{Placed}
 use Rattle.cuts.specs.Tokens.{Span, span, those, held_between, words_of_size, Base, written}
 use Rattle.cuts.specs.Cuts.{CutAnswer, answer, cut_answer, put_spans}
@@ -48,18 +46,18 @@ module _ (size : ℕ) (offsets starts ends : List ℕ) (base x y : ℕ) (area₀
       }
 
   -- a token with no more characters has none
-  pub words_none : y - x ≤ size → AllWords (answer Done (written count₀ area₀))
+  pub words_none : y - x ≤ size → AllWords (answer (Ok tt) (written count₀ area₀))
   words_none few place cs n records logarithms known in_cs in_rows =
       all_put place cs (written count₀ area₀) {spans = words_in n records logarithms} refl (too_few size (rows_of starts ends records logarithms n) y x few)
 
   module _ {area : List ℕ} {count end : ℕ} (here : WordsPut area count end) where
-    pub words_end : y < end → AllWords (answer Done (written count area))
+    pub words_end : y < end → AllWords (answer (Ok tt) (written count area))
     words_end h place cs n records logarithms known in_cs in_rows =
         all_put place cs (written count area) (here.same place cs n records logarithms known in_cs in_rows)
         (no_words size (rows_of starts ends records logarithms n) y end h)
 
     -- a stretch, which `push_gram` answers with r
-    module _ (inside : end ≤ y) (some : 0 < size) (r : Cut) (after : List ℕ)
+    module _ (inside : end ≤ y) (some : 0 < size) (r : Result ℕ CutError) (after : List ℕ)
         (put : (place : Base) (cs : List ℕ) (n : ℕ) (records : List ℕ) (logarithms : List Float) → Placed place base cs offsets → end ≤ length cs
         → end - size < n
         → cut_answer r after ≡ put_spans place cs (written count area)
@@ -67,13 +65,13 @@ module _ (size : ℕ) (offsets starts ends : List ℕ) (base x y : ℕ) (area₀
       sized : size ≤ end
       sized = omega (arith, here.first)
 
-      pub word_refused : is_done r.outcome ≡ false → AllWords (cut_answer r after)
+      pub word_refused : {e : CutError} → r ≡ Err e → AllWords (cut_answer (Err e) after)
       word_refused e place cs n records logarithms known in_cs in_rows =
           stops_there place cs (written count area) (here.same place cs n records logarithms known in_cs in_rows) _ _
           (word_then size (rows_of starts ends records logarithms n) y end sized inside) r after
           (put place cs n records logarithms known (omega arith) (omega (arith, sized))) e
 
-      pub word_put : is_done r.outcome ≡ true → length after ≡ length area → WordsPut after r.count (end + 1)
+      pub word_put : {m : ℕ} → r ≡ Ok m → length after ≡ length area → WordsPut after m (end + 1)
       word_put e kept =
           record {
             first = omega (arith, here.first);

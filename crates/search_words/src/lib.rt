@@ -10,8 +10,7 @@ ghost use Rattle.cuts.specs.Tokens.{span, those, held_between, words_of_size, Ba
 ghost use Rattle.cuts.specs.Cuts.{cut_answer, put_spans};
 ghost use Rattle.search_words.specs.Rising.{EndsRiseAt, EndsRise};
 
-use book::Outcome;
-use cuts::Cut;
+use cuts::CutError;
 
 // Whether a held word starts at a position and ends at another. Ends rise, so the look ends at the first that is no smaller.
 fn word_at(starts: &[usize], edge_ends: &[u32], at: usize, end: usize) -> bool
@@ -20,13 +19,11 @@ fn word_at(starts: &[usize], edge_ends: &[u32], at: usize, end: usize) -> bool
         → result ≡ held_between (rows_of starts.now edge_ends.now records logarithms n) (span at end) }
 {
     let last = starts[at + 1];
-    let mut place = starts[at];
-    while place < last {
+    for place in starts[at]..last {
         let reached = edge_ends[place] as usize;
         if end <= reached {
             return reached == end;
         }
-        place += 1;
     }
     false
 }
@@ -41,7 +38,7 @@ fn push_gram(
     end: usize,
     tokens: &mut [u32],
     count: usize,
-) -> Cut
+) -> Result<usize, CutError>
     requires at_lt_end { (at < end) × (end < length offsets.now) × (end < length starts.now) × (base + end ≤ longest_text) }
     requires ends_rise_at { EndsRiseAt starts.now edge_ends.now at }
     ensures { (place : Base) (cs : List ℕ) (n : ℕ) (records : List ℕ) (logarithms : List Float) → Placed place base cs offsets.now
@@ -52,10 +49,7 @@ fn push_gram(
     if word_at(starts, edge_ends, at, end) {
         return tokens::emit_span(offsets, base, at, end, tokens, count);
     }
-    Cut {
-        outcome: Outcome::Done,
-        count,
-    }
+    Ok(count)
 }
 
 // The held words of so many characters in the token from x up to y, if it has more characters than that.
@@ -69,7 +63,7 @@ pub fn emit_words(
     y: usize,
     tokens: &mut [u32],
     count: usize,
-) -> Cut
+) -> Result<usize, CutError>
     requires size_nonzero { (0 < size) × (x ≤ y) × (y < length offsets.now) × (y < length starts.now) × (base + y ≤ longest_text) }
     requires ends_rise { EndsRise starts.now edge_ends.now y }
     ensures { (place : Base) (cs : List ℕ) (n : ℕ) (records : List ℕ) (logarithms : List Float) → Placed place base cs offsets.now
@@ -79,20 +73,10 @@ pub fn emit_words(
 {
     let mut count = count;
     if size < y - x {
-        let mut end = x + size;
-        while end <= y {
+        for end in x + size..y + 1 {
             let at = end - size;
-            let put = push_gram(offsets, starts, edge_ends, base, at, end, tokens, count);
-            let outcome = put.outcome;
-            count = put.count;
-            if !book::is_done(outcome) {
-                return Cut { outcome, count };
-            }
-            end += 1;
+            count = push_gram(offsets, starts, edge_ends, base, at, end, tokens, count)?;
         }
     }
-    Cut {
-        outcome: Outcome::Done,
-        count,
-    }
+    Ok(count)
 }

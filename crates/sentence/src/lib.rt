@@ -5,14 +5,12 @@
 #![tactic(auto)]
 
 ghost use Rattle.std.specs.Prelude.{◌≡◌, List, [], ◌∷◌, ℕ, length};
-ghost use Rattle.book.specs.declared.Outcome.TheVariants.{Done};
 ghost use Rattle.cuts.specs.Slices as Slices;
 ghost use Rattle.cuts.specs.Tokens.{written};
 ghost use Rattle.cuts.specs.Cuts.{answer, cut_with};
 ghost use Rattle.sentence.specs.Sizes.{tested_sizes};
 
-use book::{Head, Outcome};
-use utf8::CharCount;
+use book::{Head, Refusal};
 
 // The shorter of two lengths: an area of several slices counts as its shortest.
 pub fn shorter(a: usize, b: usize) -> usize
@@ -42,8 +40,7 @@ pub fn shortest(
     shorter(work, records)
 }
 
-// Whether a sentence is cut, by the lengths of what is lent, its bytes and the book's head: `Done` if so, or what it is refused
-// with. It is called and not inlined, and of an area it asks the length alone: so a length is what it takes. The records' come
+// Whether a sentence is cut, by the lengths of what is lent, its bytes and the book's head, or what it is refused with. It is called and not inlined, and of an area it asks the length alone: so a length is what it takes. The records' come
 // first, apart from the slots': side by side the compiler moves two lengths as one, which waits for the stores of both.
 #[tactic(auto, using(crate::proofs::Beginning::too_long))]
 pub fn begin(
@@ -55,28 +52,26 @@ pub fn begin(
     sentence: &[u8],
     work: usize,
     tokens: usize,
-) -> Outcome
+) -> Result<(), Refusal>
     ensures { (area : List ℕ) → length area ≡ tokens
         → answer result (written 0 area) ≡ cut_with (tested_sizes head roots slots records logarithms) work area
-        (λ cs. answer Done) sentence.now }
+        (λ cs. answer (Ok tt)) sentence.now }
 {
     if !book::is_allowed(roots, slots, records, logarithms) {
-        return Outcome::BadAreas;
+        return Err(Refusal::BadAreas);
     }
     if tokens % cuts::TOKEN_WIDTH != 0 {
-        return Outcome::BadAreas;
+        return Err(Refusal::BadAreas);
     }
     if book::LONGEST_TEXT < sentence.len() {
-        return Outcome::TooLong;
+        return Err(Refusal::TooLong);
     }
-    let CharCount::Chars(count) = utf8::char_count(sentence) else {
-        return Outcome::Malformed;
-    };
+    let count = utf8::char_count(sentence)?;
     if work <= count {
-        return Outcome::WorkTooShort;
+        return Err(Refusal::WorkTooShort);
     }
     if book::is_head_damaged(head, records, slots / 2) {
-        return Outcome::Damaged;
+        return Err(Refusal::Damaged);
     }
-    Outcome::Done
+    Ok(())
 }

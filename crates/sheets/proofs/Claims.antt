@@ -2,6 +2,7 @@
 -- A filled sheet's lines are the sheet's lines filled, and each of them means now what it meant before by the old rule, unfilled: so the two loads enter the
 -- same words with the same frequencies, one after the other, and stop at the same line for the same reason. What the book holds plays no part.
 -- Assumes nothing.
+use Rattle.std.specs.Prelude.{Ok, Err}
 use mathlib.Core.Path.{◌≡◌, refl, ap, ◌∙◌}
 use mathlib.Core.Bool.{Bool, true, false}
 use mathlib.Core.List.{List, [], ◌∷◌, map}
@@ -10,10 +11,9 @@ use native.Mathlib.Omega.{arith}
 use borrow.Author.Tests.{le-leb}
 use lib.ListN.{length}
 use Rattle.lines.specs.Lines.{lines_of, Meaning, malformed, blank, bad_frequency, entry, meaning_of}
-use Rattle.book.specs.declared.Decision.{Decision}
-use Rattle.book.specs.declared.Decision.TheVariants.{Refuse, Replace, Insert}
+use Rattle.book.specs.declared.Entering.TheVariants.{Replace, Insert}
 use Rattle.book.specs.Returns.{Book, sized, longest_text}
-use Rattle.book.specs.Enter.{enter, replaced, inserted, LoadAnswer, load_answer, load_lines, load_of}
+use Rattle.book.specs.Enter.{enter, replaced, inserted, LoadAnswer, load_answer, load_lines, load_of, Decision}
 use Rattle.sheets.specs.Filled.{filled_line, filled}
 use Rattle.sheets.specs.OldRule.{old_meaning_of, old_load_lines, old_load_of}
 use Rattle.sheets.specs.Claims.{OldRuleKept}
@@ -28,17 +28,17 @@ lines_load (l ∷ ls) b n = by_meaning (old_meaning_of l) refl (meaning_filled l
     by_decision : (word : List ℕ) (frequency : ℕ) → ((c : Book) (k : ℕ) → load_lines c k (map filled_line ls) ≡ old_load_lines c k ls)
         → (d : Decision)
         → ◌≡◌ {A = LoadAnswer} (elim d [
-          | Refuse o ↦ load_answer o (n + 1) b
-          | Replace r total ↦ load_lines (replaced b r frequency total) (n + 1) (map filled_line ls)
-          | Insert slots nodes total ↦ load_lines (inserted b word frequency slots nodes total) (n + 1) (map filled_line ls)
+          | Err r ↦ load_answer (Err r) (n + 1) b
+          | Ok (Replace r total) ↦ load_lines (replaced b r frequency total) (n + 1) (map filled_line ls)
+          | Ok (Insert slots nodes total) ↦ load_lines (inserted b word frequency slots nodes total) (n + 1) (map filled_line ls)
         ]) (elim d [
-          | Refuse o ↦ load_answer o (n + 1) b
-          | Replace r total ↦ old_load_lines (replaced b r frequency total) (n + 1) ls
-          | Insert slots nodes total ↦ old_load_lines (inserted b word frequency slots nodes total) (n + 1) ls
+          | Err r ↦ load_answer (Err r) (n + 1) b
+          | Ok (Replace r total) ↦ old_load_lines (replaced b r frequency total) (n + 1) ls
+          | Ok (Insert slots nodes total) ↦ old_load_lines (inserted b word frequency slots nodes total) (n + 1) ls
         ])
-    by_decision word frequency rest (Refuse o) = refl
-    by_decision word frequency rest (Replace r total) = rest (replaced b r frequency total) (n + 1)
-    by_decision word frequency rest (Insert slots nodes total) = rest (inserted b word frequency slots nodes total) (n + 1)
+    by_decision word frequency rest (Err o) = refl
+    by_decision word frequency rest (Ok (Replace r total)) = rest (replaced b r frequency total) (n + 1)
+    by_decision word frequency rest (Ok (Insert slots nodes total)) = rest (inserted b word frequency slots nodes total) (n + 1)
 
     by_meaning : (m : Meaning) → old_meaning_of l ≡ m → meaning_of (filled_line l) ≡ old_meaning_of l
         → ((c : Book) (k : ℕ) → load_lines c k (map filled_line ls) ≡ old_load_lines c k ls) → load_lines b n (map filled_line (l ∷ ls)) ≡ old_load_lines b n (l ∷ ls)

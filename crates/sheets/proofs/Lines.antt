@@ -14,14 +14,14 @@ use Rattle.utf8.specs.Encoding.{byte_length}
 use Rattle.utf8.specs.Text.{chars_of, chars_within, chars_from}
 use Rattle.utf8.proofs.Positions.{from_start, first_bytes, from_second, byte_length_append, within_text, chars_append}
 use Rattle.lines.specs.Lines.{take_while, pieces, fields_of, number, frequency_of, meaning_of}
-use Rattle.sheets.specs.declared.ZeroPlace.TheVariants.{After, Nowhere}
+use Rattle.std.specs.Prelude.{Some, None}
 use Rattle.sheets.specs.Filled.{zero_place, zero_digit, space_and_zero, with_zero, filled_line}
 use Rattle.sheets.specs.OldRule.{old_meaning_of}
 use Rattle.sheets.specs.Claims.{HasSecondField}
 use Rattle.sheets.proofs.Fields.{OnlyField, only_field}
 
 -- a line without a place for a 0 goes out as it came
-unchanged : (line : List ℕ) → zero_place line ≡ Nowhere → filled_line line ≡ line
+unchanged : (line : List ℕ) → zero_place line ≡ None → filled_line line ≡ line
 unfolding filled_line
 unchanged line e = ap (with_zero line) e
 
@@ -47,7 +47,7 @@ module _ (line cs word : List ℕ) (e : chars_of line ≡ some cs) (only : field
   bare_end_lem : ℕ
   bare_end_lem = byte_length first + byte_length word
 
-  bare_place : zero_place line ≡ After bare_end_lem
+  bare_place : zero_place line ≡ Some bare_end_lem
   unfolding zero_place bare_end_lem first
   bare_place = rw (e, only, zero-add (byte_length (take_while white_space cs)))
 
@@ -118,7 +118,7 @@ module _ (line cs word : List ℕ) (e : chars_of line ≡ some cs) (only : field
 
 pub data Kind (line : List ℕ) : Type 0 where
   bare : (cs word : List ℕ) → chars_of line ≡ some cs → fields_of cs ≡ word ∷ [] → Kind line
-  kept : zero_place line ≡ Nowhere → meaning_of line ≡ old_meaning_of line → Kind line
+  kept : zero_place line ≡ None → meaning_of line ≡ old_meaning_of line → Kind line
 
 pub kind_of_lem : (line : List ℕ) → Kind line
 unfolding zero_place meaning_of old_meaning_of
@@ -161,7 +161,7 @@ line_length line =
       | kept e same ↦ let long : length (filled_line line) ≡ length line = ap length (unchanged line e) in (omega arith, omega arith)
     ]
 
-pub place_inside : (line : List ℕ) (end : ℕ) → After end ≡ zero_place line → end ≤ length line
+pub place_inside : (line : List ℕ) (end : ℕ) → Some end ≡ zero_place line → end ≤ length line
 place_inside line end at_end =
     elim (kind_of_lem line) [
       | bare cs word e f ↦ let place = bare_place line cs word e f in let same : end ≡ bare_end_lem line cs word e f = cc in omega (arith, bare_inside line cs word e f)

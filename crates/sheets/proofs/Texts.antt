@@ -13,8 +13,7 @@ use lib.Seq.{append_snoc}
 use Rattle.utf8.specs.Text.{chars_of, chars_within}
 use Rattle.lines.specs.Lines.{onto, lines_of, take_while, pieces, fields_of}
 use Rattle.lines.proofs.Ends.{within, line_ends, line_goes_on}
-use Rattle.sheets.specs.declared.ZeroPlace.{ZeroPlace}
-use Rattle.sheets.specs.declared.ZeroPlace.TheVariants.{After, Nowhere}
+use Rattle.std.specs.Prelude.{Option as CodeOption, Some, None}
 use Rattle.sheets.specs.Filled.{zero_place, space_and_zero, with_zero, filled_line, filled_from, filled}
 use Rattle.sheets.specs.Claims.{FilledLineByLine, EachHasSecondField, FilledTwice, SecondFieldsKept, FilledShort}
 use Rattle.sheets.proofs.Lines.{line_twice, line_kept, line_length}
@@ -39,9 +38,9 @@ filled_none : (line : List ℕ) → NoLineEnd line → NoLineEnd (filled_line li
 unfolding filled_line
 filled_none line none_there = by_place (zero_place line)
   where
-    by_place : (place : ZeroPlace) → NoLineEnd (with_zero line place)
-    by_place Nowhere = none_there
-    by_place (After end) =
+    by_place : (place : CodeOption ℕ) → NoLineEnd (with_zero line place)
+    by_place None = none_there
+    by_place (Some end) =
         let parts = none_taken end line none_there in
         none_appended (take end line) (space_and_zero ++ drop end line) parts.0 (refl, (refl, parts.1))
 

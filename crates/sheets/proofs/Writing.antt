@@ -3,18 +3,19 @@
 -- Assumes nothing.
 use mathlib.Core.Path.{◌≡◌, refl, sym, ap, subst, ◌∙◌}
 use mathlib.Core.Bool.{Bool, true, false}
-use mathlib.Core.List.{List, [], ◌∷◌, ◌++◌}
+use mathlib.Core.List.{List, [], ◌∷◌, ◌++◌, append_assoc}
 use Prim.Native.Nat.{ℕ, suc, ◌+◌, ◌-◌, ◌*◌, ◌≤◌, ◌<◌}
 use native.Mathlib.Numerals.{add-one}
 use native.Mathlib.Omega.{arith}
 use borrow.Author.Tests.{le-leb, lt-leb, leb-true}
 use lib.Dec.{leb}
-use lib.ListN.{length, get_or, set, take, drop, length-set, length-append, length-drop, drop_of_length-le}
-use lib.Seq.{sets, length-sets, length-take-le, take_all, drop-cons, drop-drop}
+use lib.ListN.{length, set, take, drop, length-set, length-append, length-drop, drop_of_length-le}
+use borrow.Rule.Slice.PartMut.{put_mid}
+use lib.Seq.{sets, sets-eq, length-sets, length-take-le, take_all, drop-drop}
 use Rattle.printing.specs.Answers.{Put}
 use Rattle.printing.proofs.Lines.{after}
-use Rattle.sheets.specs.declared.ZeroPlace.TheVariants.{After, Nowhere}
-use Rattle.sheets.specs.declared.Sheet.TheVariants.{Filled, TooLong}
+use Rattle.std.specs.Prelude.{Result, Ok, Err, Some, None}
+use Rattle.sheets.specs.declared.TooLong.{TooLong}
 use Rattle.sheets.specs.Filled.{zero_place, zero_digit, space_and_zero, with_zero, filled_line, filled, longest_sheet, Filling, filling, fill_of}
 use Rattle.lines.specs.Lines.{take_while, line_end}
 use Rattle.lines.proofs.Ends.{within, taken}
@@ -23,50 +24,26 @@ use Rattle.sheets.proofs.Texts.{none_within, up_to_line_end, up_to_text_end, fil
 
 -- ---- `put`
 
-pub record Putting (bytes before : List ℕ) (from : ℕ) (out : List ℕ) (at i : ℕ) : Type 0 where
-  pub whole : sets out at (drop i bytes) ≡ sets before from bytes
-  pub place : at ≡ from + i
-  pub long : length out ≡ length before
-
-pub putting : (bytes out : List ℕ) (from : ℕ) → Putting bytes out from out from 0
-putting bytes out from = record { whole = refl; place = omega arith; long = refl }
-
-module _ (bytes before out : List ℕ) (from at i : ℕ) (so_far : Putting bytes before from out at i) where
-  pub one_more : (b : ℕ) → i < length bytes → b ≡ get_or bytes i 0 → Putting bytes before from (set out at b) (at + 1) (i + 1)
-  one_more b inside is = record {
-    whole = rw (add-one at, add-one i, is) (sym (ap (sets out at) (drop-cons bytes i 0 inside)) ∙ so_far.whole);
-    place = omega (arith, so_far.place);
-    long = length-set out at b ∙ so_far.long;
-  }
-
-  pub all_put : length bytes ≤ i → i ≤ length bytes → Put before from bytes out at
-  all_put end within = record {
-    area = ap (sets out at) (sym (drop_of_length-le bytes end)) ∙ so_far.whole;
-    ends = omega (arith, so_far.place);
-  }
+pub put_whole : (bytes before part : List ℕ) (from : ℕ) → from + length bytes ≤ length before → part ≡ bytes
+    → Put before from bytes (put_mid from (from + length bytes - from) before part) (from + length bytes)
+put_whole bytes before part from room same =
+    let count : from + length bytes - from ≡ length bytes = omega arith in
+    record { area = rw (same, count, drop-drop (length bytes) from before) (sym (append_assoc (take from before) bytes (drop (from + length bytes) before)) ∙ sym (sets-eq bytes before from room)); ends = refl }
 
 -- ---- `fill_line`
-
-pub rest_length : (line : List ℕ) (n : ℕ) → length (take (length line - n) (drop n line)) ≡ length line - n
-rest_length line n =
-    let left : length (drop n line) ≡ length line - n = length-drop n line in
-    length-take-le (length line - n) (drop n line) (omega arith)
 
 pub part_length : (s : List ℕ) (at end : ℕ) → at ≤ end → end ≤ length s → length (take (end - at) (drop at s)) ≡ end - at
 part_length s at end from to =
     let left : length (drop at s) ≡ length s - at = length-drop at s in
     length-take-le (end - at) (drop at s) (omega arith)
 
-pub two_set : (out : List ℕ) (i j a b : ℕ) → length (set (set out i a) j b) ≡ length out
-two_set out i j a b = length-set (set out i a) j b ∙ length-set out i a
-
 module _ (line : List ℕ) where
-  pub as_it_came : (out written : List ℕ) (at end : ℕ) → Nowhere ≡ zero_place line → Put out at line written end → Put out at (filled_line line) written end
+  pub as_it_came : (out written : List ℕ) (at end : ℕ) → None ≡ zero_place line → Put out at line written end → Put out at (filled_line line) written end
   unfolding filled_line
   as_it_came out written at end place put = subst (λ (bytes : List ℕ). Put out at bytes written end) (ap (with_zero line) place) put
 
   -- the line up to the word's end, a space, 0, and the rest
-  pub with_zero_lem : (out one most : List ℕ) (at place word end : ℕ) → After place ≡ zero_place line → Put out at (take place line) one word
+  pub with_zero_lem : (out one most : List ℕ) (at place word end : ℕ) → Some place ≡ zero_place line → Put out at (take place line) one word
       → Put (set (set one word 0x20) (word + 1) zero_digit) (word + 2) (take (length line - place) (drop place line)) most end
       → Put out at (filled_line line) most end
   unfolding filled_line
@@ -185,30 +162,30 @@ module _ (s before out : List ℕ) (at written : ℕ) (so_far : FillingLines s b
 
 -- ---- `fill`
 
-pub too_long : (sheet area : List ℕ) → longest_sheet < length sheet → filling TooLong area ≡ fill_of sheet area
+pub too_long : (sheet area : List ℕ) → longest_sheet < length sheet → filling (Err (record {})) area ≡ fill_of sheet area
 unfolding fill_of
 too_long sheet area longer = rw (lt-leb (length sheet) longest_sheet longer)
 
 pub not_too_long : (sheet area after_all : List ℕ) (end : ℕ) → length sheet ≤ longest_sheet → Put area 0 (filled sheet) after_all end
-    → filling (Filled end) after_all ≡ fill_of sheet area
+    → filling (Ok end) after_all ≡ fill_of sheet area
 unfolding fill_of
 not_too_long sheet area after_all end within_limit put =
     let count : end ≡ length (filled sheet) = omega (arith, put.ends) in
     rw (le-leb (length sheet) longest_sheet within_limit, count, put.area)
 
 -- what is filled is within the area
-pub within_area : (sheet area after_all : List ℕ) (end : ℕ) → filling (Filled end) after_all ≡ fill_of sheet area → 131073 ≤ length area → end ≤ length after_all
+pub within_area : (sheet area after_all : List ℕ) (end : ℕ) → filling (Ok end) after_all ≡ fill_of sheet area → 131073 ≤ length area → end ≤ length after_all
 unfolding fill_of
 within_area sheet area after_all end e long = go (leb (length sheet) longest_sheet) refl
   where
     go : (t : Bool) → leb (length sheet) longest_sheet ≡ t → end ≤ length after_all
     go true within_limit =
-        let same : filling (Filled end) after_all ≡ filling (Filled (length (filled sheet))) (sets area 0 (filled sheet)) = rw within_limit at e in
-        let told : Filled end ≡ Filled (length (filled sheet)) = ap (λ (f : Filling). f.sheet) same in
+        let same : filling (Ok end) after_all ≡ filling (Ok (length (filled sheet))) (sets area 0 (filled sheet)) = rw within_limit at e in
+        let told : Ok end ≡ Ok (length (filled sheet)) = ap (λ (f : Filling). f.sheet) same in
         let count : end ≡ length (filled sheet) = cc in
         let kept : length after_all ≡ length area = ap (λ (f : Filling). length f.area) same ∙ length-sets area 0 (filled sheet) in
         omega (arith, leb-true (length sheet) longest_sheet within_limit, filled_short sheet)
     go false longer =
-        let same : filling (Filled end) after_all ≡ filling TooLong area = rw longer at e in
-        let other : Filled end ≡ TooLong = ap (λ (f : Filling). f.sheet) same in
+        let same : filling (Ok end) after_all ≡ filling (Err (record {})) area = rw longer at e in
+        let other : ◌≡◌ {A = Result ℕ TooLong} (Ok end) (Err (record {})) = ap (λ (f : Filling). f.sheet) same in
         let z : ◌≡◌ {A = ℕ} 0 1 = cc in absurd (omega arith)

@@ -2,31 +2,29 @@
 -- came, and a longer sheet gives no output".
 -- Assumes nothing.
 use Rattle.std.specs.Prelude.{ℕ, ◌+◌, true, false, cond, List, [], ◌∷◌, ◌++◌, eqb, leb, length, take, drop}
+use Rattle.std.specs.Prelude.{Result, Ok, Err, Option as CodeOption, Some, None}
 use Rattle.std.proofs.Math.Option.{Option, none, some}
 use Rattle.std.proofs.lemmas.List.Edits.{sets}
 use Rattle.classes.specs.WhiteSpace.{white_space}
 use Rattle.utf8.specs.Encoding.{byte_length}
 use Rattle.utf8.specs.Text.{chars_of}
 use Rattle.lines.specs.Lines.{past, fields_of}
-use Rattle.sheets.specs.declared.ZeroPlace.{ZeroPlace}
-use Rattle.sheets.specs.declared.ZeroPlace.TheVariants.{After, Nowhere}
-use Rattle.sheets.specs.declared.Sheet.{Sheet}
-use Rattle.sheets.specs.declared.Sheet.TheVariants.{Filled, TooLong}
+use Rattle.sheets.specs.declared.TooLong.{TooLong}
 
 -- ---- a line
 
 -- where a word ends that has no second field, in bytes: by where it starts and by the line's fields
-abbrev pub bare_end : ℕ → List (List ℕ) → ZeroPlace
-bare_end start [] = Nowhere
-bare_end start (word ∷ []) = After (start + byte_length word)
-bare_end start (word ∷ second ∷ others) = Nowhere
+abbrev pub bare_end : ℕ → List (List ℕ) → CodeOption ℕ
+bare_end start [] = None
+bare_end start (word ∷ []) = Some (start + byte_length word)
+bare_end start (word ∷ second ∷ others) = None
 
 -- "right after each word that has no second field"; the word starts after the white space before it; "malformed lines go out as they came"
-abbrev pub zero_place_of_chars : Option (List ℕ) → ZeroPlace
-zero_place_of_chars none = Nowhere
+abbrev pub zero_place_of_chars : Option (List ℕ) → CodeOption ℕ
+zero_place_of_chars none = None
 zero_place_of_chars (some cs) = bare_end (past white_space 0 (some cs)) (fields_of cs)
 
-unfoldable pub zero_place : List ℕ → ZeroPlace
+unfoldable pub zero_place : List ℕ → CodeOption ℕ
 zero_place line = zero_place_of_chars (chars_of line)
 
 -- "a space and 0"
@@ -36,9 +34,9 @@ zero_digit = 0x30
 abbrev pub space_and_zero : List ℕ
 space_and_zero = 0x20 ∷ zero_digit ∷ []
 
-abbrev pub with_zero : List ℕ → ZeroPlace → List ℕ
-with_zero line Nowhere = line
-with_zero line (After end) = take end line ++ (space_and_zero ++ drop end line)
+abbrev pub with_zero : List ℕ → CodeOption ℕ → List ℕ
+with_zero line None = line
+with_zero line (Some end) = take end line ++ (space_and_zero ++ drop end line)
 
 unfoldable pub filled_line : List ℕ → List ℕ
 filled_line line = with_zero line (zero_place line)
@@ -61,12 +59,12 @@ abbrev pub longest_sheet : ℕ
 longest_sheet = 65536
 
 pub record Filling : Type 0 where
-  pub sheet : Sheet
+  pub sheet : Result ℕ TooLong
   pub area : List ℕ
 
-abbrev pub filling : Sheet → List ℕ → Filling
+abbrev pub filling : Result ℕ TooLong → List ℕ → Filling
 filling sheet area = record { sheet = sheet; area = area }
 
 -- "a longer sheet gives no output"
 unfoldable pub fill_of : List ℕ → List ℕ → Filling
-fill_of sheet area = cond (leb (length sheet) longest_sheet) (filling (Filled (length (filled sheet))) (sets area 0 (filled sheet))) (filling TooLong area)
+fill_of sheet area = cond (leb (length sheet) longest_sheet) (filling (Ok (length (filled sheet))) (sets area 0 (filled sheet))) (filling (Err (record {})) area)

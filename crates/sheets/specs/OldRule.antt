@@ -1,12 +1,12 @@
 -- A load by the rule that note 7 of document 02 replaced; kept for the theorem `OldRuleKept` (`Claims.antt`) alone, and cited by no contract.
 -- It is `load_of` (`book/specs/Enter.antt`) word for word, but that a word without a second field has the frequency 0.
 -- Assumes nothing.
-use Rattle.std.specs.Prelude.{ℕ, ◌+◌, cond, List, [], ◌∷◌, leb, length}
+use Rattle.std.specs.Prelude.{ℕ, ◌+◌, cond, List, [], ◌∷◌, leb, length, Ok, Err}
 use Rattle.std.proofs.Math.Option.{Option, none, some}
 use Rattle.utf8.specs.Text.{chars_of}
 use Rattle.lines.specs.Lines.{lines_of, fields_of, frequency_of, Meaning, malformed, blank, bad_frequency, entry, with_frequency}
-use Rattle.book.specs.declared.Outcome.TheVariants.{Done, BadAreas, TooLong, Malformed, BadFrequency}
-use Rattle.book.specs.declared.Decision.TheVariants.{Refuse, Replace, Insert}
+use Rattle.book.specs.declared.Refusal.TheVariants.{BadAreas, TooLong, Malformed, BadFrequency}
+use Rattle.book.specs.declared.Entering.TheVariants.{Replace, Insert}
 use Rattle.book.specs.Returns.{Book, sized, longest_text}
 use Rattle.book.specs.Enter.{enter, replaced, inserted, LoadAnswer, load_answer}
 
@@ -24,19 +24,19 @@ unfoldable pub old_meaning_of : List ℕ → Meaning
 old_meaning_of line = old_meaning_of_chars (chars_of line)
 
 unfoldable pub old_load_lines : Book → ℕ → List (List ℕ) → LoadAnswer
-old_load_lines b n [] = load_answer Done n b
+old_load_lines b n [] = load_answer (Ok tt) n b
 old_load_lines b n (l ∷ ls) =
     elim (old_meaning_of l) [
-      | malformed ↦ load_answer Malformed (n + 1) b
+      | malformed ↦ load_answer (Err Malformed) (n + 1) b
       | blank ↦ old_load_lines b (n + 1) ls
-      | bad_frequency ↦ load_answer BadFrequency (n + 1) b
+      | bad_frequency ↦ load_answer (Err BadFrequency) (n + 1) b
       | entry word frequency ↦ elim (enter b word frequency) [
-        | Refuse o ↦ load_answer o (n + 1) b
-        | Replace r total ↦ old_load_lines (replaced b r frequency total) (n + 1) ls
-        | Insert slots nodes total ↦ old_load_lines (inserted b word frequency slots nodes total) (n + 1) ls
+        | Err r ↦ load_answer (Err r) (n + 1) b
+        | Ok (Replace r total) ↦ old_load_lines (replaced b r frequency total) (n + 1) ls
+        | Ok (Insert slots nodes total) ↦ old_load_lines (inserted b word frequency slots nodes total) (n + 1) ls
       ]
     ]
 
 unfoldable pub old_load_of : Book → List ℕ → LoadAnswer
 old_load_of b text =
-    cond (sized b) (cond (leb (length text) longest_text) (old_load_lines b 0 (lines_of text)) (load_answer TooLong 0 b)) (load_answer BadAreas 0 b)
+    cond (sized b) (cond (leb (length text) longest_text) (old_load_lines b 0 (lines_of text)) (load_answer (Err TooLong) 0 b)) (load_answer (Err BadAreas) 0 b)

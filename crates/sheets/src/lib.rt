@@ -9,48 +9,27 @@ ghost use Rattle.std.specs.Prelude.{◌≡◌, ◌+◌, ◌*◌, ◌≤◌, leng
 ghost use Rattle.printing.specs.Answers.{Put};
 ghost use Rattle.sheets.specs.Filled.{zero_place, filled_line, filled, filling, fill_of};
 
-use lines::Field;
-use utf8::CharCount;
-
 // The longest sheet that is filled.
 pub const LONGEST_SHEET: usize = 65536;
 
 // Places for what is written: a byte of a sheet makes at most two, and the last line one more.
 pub const ROOM: usize = 131073;
 
-// Where a line's 0 goes.
-#[derive(Clone, Copy)]
-pub enum ZeroPlace {
-    // After so many bytes, which end with a word that has no second field.
-    After(usize),
-    // There is no such word.
-    Nowhere,
-}
+// A sheet that is longer than that.
+#[derive(Clone, Copy, Debug, PartialEq, Eq)]
+pub struct TooLong;
 
-// What becomes of a sheet.
-#[derive(Clone, Copy)]
-pub enum Sheet {
-    // It is filled, and has so many bytes now.
-    Filled(usize),
-    TooLong,
-}
-
-// Where a line's 0 goes: right after its word, if that is its only field.
-fn zero_place(line: &[u8]) -> ZeroPlace
+// Where a line's 0 goes, if it gets one: right after its word, if that is its only field.
+fn zero_place(line: &[u8]) -> Option<usize>
     ensures { result ≡ zero_place line.now }
 {
-    match utf8::char_count(line) {
-        CharCount::Malformed => {
-            return ZeroPlace::Nowhere;
-        }
-        CharCount::Chars(_) => {}
-    }
-    let Field::At(_, end) = lines::next_field(line, 0) else {
-        return ZeroPlace::Nowhere;
+    let Ok(_) = utf8::char_count(line) else {
+        return None;
     };
-    match lines::next_field(line, end) {
-        Field::Missing => ZeroPlace::After(end),
-        Field::At(_, _) => ZeroPlace::Nowhere,
+    let word = lines::next_field(line, 0)?;
+    match lines::next_field(line, word.end) {
+        None => Some(word.end),
+        Some(_) => None,
     }
 }
 
@@ -59,14 +38,9 @@ fn put(bytes: &[u8], out: &mut [u8], from: usize) -> usize
     requires { from + length bytes.now ≤ length out.old }
     ensures { Put out.old from bytes.now out.new result }
 {
-    let mut at = from;
-    let mut i: usize = 0;
-    while i < bytes.len() {
-        out[at] = bytes[i];
-        at += 1;
-        i += 1;
-    }
-    at
+    let end = from + bytes.len();
+    out[from..end].copy_from_slice(bytes);
+    end
 }
 
 // Writes a line with its 0.
@@ -74,7 +48,7 @@ fn fill_line(line: &[u8], out: &mut [u8], at: usize) -> usize
     requires { at + length line.now + 2 ≤ length out.old }
     ensures { Put out.old at (filled_line line.now) out.new result }
 {
-    let ZeroPlace::After(end) = zero_place(line) else {
+    let Some(end) = zero_place(line) else {
         return put(line, out, at);
     };
     let word = put(&line[..end], out, at);
@@ -84,6 +58,7 @@ fn fill_line(line: &[u8], out: &mut [u8], at: usize) -> usize
 }
 
 // Writes a sheet line by line. An LF goes out where one came.
+// Kept: a line ends where `line_end` says; `split_inclusive` would give its LF with it, to be taken off and put back.
 fn fill_lines(sheet: &[u8], out: &mut [u8]) -> usize
     requires { 2 * length sheet.now + 1 ≤ length out.old }
     ensures { Put out.old 0 (filled sheet.now) out.new result }
@@ -102,12 +77,12 @@ fn fill_lines(sheet: &[u8], out: &mut [u8]) -> usize
     written
 }
 
-// Fills a sheet, unless it is too long; then nothing is written.
-pub fn fill(sheet: &[u8], out: &mut [u8; ROOM]) -> Sheet
+// Fills a sheet, unless it is too long, and answers how many bytes it has then; of one too long nothing is written.
+pub fn fill(sheet: &[u8], out: &mut [u8; ROOM]) -> Result<usize, TooLong>
     ensures { filling result out.new ≡ fill_of sheet.now out.old }
 {
     if LONGEST_SHEET < sheet.len() {
-        return Sheet::TooLong;
+        return Err(TooLong);
     }
-    Sheet::Filled(fill_lines(sheet, out))
+    Ok(fill_lines(sheet, out))
 }

@@ -2,6 +2,7 @@
 -- What is kept at each turn is `Joining`: the rows of the positions before `at` stand in the slices, and before the walks from `at` on they make what all
 -- walks make; and they are as the route wants them. A turn adds the row of `at`, behind the others; or the walk from `at` is what stops them all.
 -- Assumes nothing.
+use Rattle.std.specs.Prelude.{Err}
 use Prim.Native.Nat.{ℕ, ◌+◌, ◌-◌, ◌≤◌, ◌<◌}
 use mathlib.Core.Bool.{Bool, true, false}
 use mathlib.Core.List.{List, [], ◌∷◌, ◌++◌, append_assoc, append-nil}
@@ -13,18 +14,19 @@ use borrow.Author.Tests.{lt-ltb, le-ltb}
 use lib.Ieee.{Float}
 use lib.ListN.{length, get_or, set, take, drop, length-set}
 use lib.Seq.{length-take-le, get_or-set_same, get_or-set_other}
+use Rattle.std.specs.Prelude.{Result, Ok, Err}
 use Rattle.score.proofs.Tests.{by_leb}
 use Rattle.trie.specs.Trie.{CharTrie, trie_of}
-use Rattle.book.specs.declared.Outcome.{Outcome}
-use Rattle.book.specs.declared.Outcome.TheVariants.{EdgesFull}
+use Rattle.book.specs.declared.Refusal.{Refusal}
+use Rattle.book.specs.declared.Refusal.TheVariants.{EdgesFull}
 use Rattle.book.specs.Returns.{Book}
 use Rattle.book.specs.Prefixes.{Edge, Walked, words_from}
 use Rattle.route.specs.Slices.{edges_from, edges_at, rows_from, EdgeOf}
 use Rattle.cuts.specs.Edges as Cuts
 use Rattle.cuts.specs.Edges.{edges, stopped, walks_of, before, edges_within}
 use Rattle.cuts.proofs.Walks.{no_more_walks, first_walk}
-use Rattle.prefixes.specs.declared.Prefixes.{Prefixes}
-use Rattle.prefixes.specs.declared.Prefixes.TheVariants.{Edges, Full}
+use Rattle.prefixes.specs.declared.PrefixError.{PrefixError}
+use Rattle.prefixes.specs.declared.PrefixError.TheVariants.{Full, Damaged}
 use Rattle.prefixes.specs.Edges.{Kept, Pushed, WalkedAt, WalkedBlock}
 use Rattle.prefixes.proofs.Slices.{edges_long, edges_same, rows_same, rows_one_more}
 
@@ -43,12 +45,12 @@ module _ (room : ℕ) (w : Walked) (ws : List Walked) where
       met = rw (le-ltb room (length es) h, edges_within)
 
   -- a walk that met more edges than there is room for
-  fills : room < length w.edges → edges_within room (w ∷ ws) ≡ stopped EdgesFull
+  fills : room < length w.edges → edges_within room (w ∷ ws) ≡ stopped (Err EdgesFull)
   unfolding edges_within
   fills h = rw (lt-ltb room (length w.edges) h, edges_within)
 
   -- a walk that met damage before that
-  breaks : length w.edges ≤ room → w.damaged ≡ true → edges_within room (w ∷ ws) ≡ stopped Outcome.Damaged
+  breaks : length w.edges ≤ room → w.damaged ≡ true → edges_within room (w ∷ ws) ≡ stopped (Err Refusal.Damaged)
   unfolding edges_within
   breaks h e = rw (le-ltb room (length w.edges) h, e, edges_within)
 
@@ -136,7 +138,7 @@ module _ {roots slots : List ℕ} {used : ℕ} {chars : List ℕ}
       → b.trie ≡ tables
       → b.head.records ≡ used
       → used ≤ length b.logarithms
-      → WalkedBlock b n room cs starts ends records (Edges count)
+      → WalkedBlock b n room cs starts ends records (Ok count)
   unfolding edges_within
   ends_here past in_ends in_records b trie in_use logarithms =
       let there : at ≡ n = omega (arith, now.last) in (
@@ -155,7 +157,7 @@ module _ {roots slots : List ℕ} {used : ℕ} {chars : List ℕ}
       )
 
   -- the walk from here, and the edge slices after it
-  module _ (r : Prefixes) (ends' records' : List ℕ) (more : at < n)
+  module _ (r : Result ℕ PrefixError) (ends' records' : List ℕ) (more : at < n)
       (walked : (b : Book) → b.trie ≡ tables → b.head.records ≡ used → WalkedAt b n at room count (words_from b at (drop at cs)) ends' records' r) where
     -- what all walks make, by the walk from here
     by_first : (b : Book)
@@ -168,26 +170,32 @@ module _ {roots slots : List ℕ} {used : ℕ} {chars : List ℕ}
         ∙ ap (λ (ws : List Walked). joined (so_far b) (edges_within (room - count) ws)) (first_walk (words_from b) at cs (omega (arith, cs_long)))
 
     -- the walk from here finds no place for an edge
-    pub ends_full : r ≡ Full → (b : Book) → b.trie ≡ tables → b.head.records ≡ used → edges_within room (walks_of (words_from b) 0 cs) ≡ stopped EdgesFull
+    ends_full : r ≡ Err Full → (b : Book) → b.trie ≡ tables → b.head.records ≡ used → edges_within room (walks_of (words_from b) 0 cs) ≡ stopped (Err EdgesFull)
     ends_full e b trie in_use =
         let full = rw e at (walked b trie in_use) in
         by_first b trie in_use
         ∙ ap (joined (so_far b)) (fills (room - count) (words_from b at (drop at cs)) (walks_of (words_from b) (at + 1) (drop (at + 1) cs)) full)
 
     -- the walk from here meets damage
-    pub ends_damaged : r ≡ Prefixes.Damaged
+    ends_damaged : r ≡ Err Damaged
         → (b : Book)
         → b.trie ≡ tables
         → b.head.records ≡ used
-        → edges_within room (walks_of (words_from b) 0 cs) ≡ stopped Outcome.Damaged
+        → edges_within room (walks_of (words_from b) 0 cs) ≡ stopped (Err Refusal.Damaged)
     ends_damaged e b trie in_use =
         let damage = rw e at (walked b trie in_use) in
         by_first b trie in_use
         ∙ ap (joined (so_far b)) (breaks (room - count) (words_from b at (drop at cs)) (walks_of (words_from b) (at + 1) (drop (at + 1) cs)) damage.0
         damage.1)
 
+    -- so the error of the walk is that of the block
+    pub ends_stopped : (e : PrefixError) → r ≡ Err e → (b : Book) → b.trie ≡ tables → b.head.records ≡ used
+        → WalkedBlock b n room cs starts ends' records' (Err e)
+    ends_stopped Full e b trie in_use = ends_full e b trie in_use
+    ends_stopped Damaged e b trie in_use = ends_damaged e b trie in_use
+
     -- it has found places for all its edges
-    module _ {to : ℕ} (e : r ≡ Edges to) where
+    module _ {to : ℕ} (e : r ≡ Ok to) where
       pushed : (b : Book) → b.trie ≡ tables → b.head.records ≡ used → Pushed b n at room count to (words_from b at (drop at cs)) ends' records'
       pushed b trie in_use = rw e at (walked b trie in_use)
 

@@ -7,19 +7,18 @@
 #![tactic(auto)]
 
 ghost use Rattle.std.specs.Prelude.{◌≡◌, ◌≤◌, ◌<◌, length, take};
-ghost use Rattle.trie.specs.Trie.{trie_of, SlotTable};
+ghost use Rattle.trie.specs.Tables.{trie_in};
 ghost use Rattle.book.specs.Returns.{Book, longest_text, most_records};
 ghost use Rattle.cuts.specs.Slices.{Characters};
 ghost use Rattle.prefixes.specs.Edges.{WalkedBlock};
 
-use prefixes::Prefixes;
+use prefixes::PrefixError;
+use trie::Tables;
 
 // The words that start at each position of a block of n characters. The edges of a position i are the places `starts[i]` up to
-// `starts[i + 1]` of the edge slices, of which the room's places may be taken.
+// `starts[i + 1]` of the edge slices, of which the room's places may be taken. It answers how many are.
 pub fn for_each_prefix_at_every_char(
-    roots: &[u64],
-    slots: &[u64],
-    shift: u32,
+    tables: Tables,
     used: usize,
     chars: &[u32],
     n: usize,
@@ -27,21 +26,17 @@ pub fn for_each_prefix_at_every_char(
     edge_ends: &mut [u32],
     edge_records: &mut [u32],
     room: usize,
-) -> Prefixes
-    requires slot_table { SlotTable (length slots.now) shift }
+) -> Result<usize, PrefixError>
     requires n_in_bounds { (n ≤ length chars.now) × (n ≤ longest_text) × (n < length starts.old) × Characters n chars.now }
     requires room_in_bounds { (room ≤ length edge_ends.old) × (room ≤ length edge_records.old) × (used ≤ most_records) }
-    ensures { (b : Book) → b.trie ≡ trie_of roots.now slots.now → b.head.records ≡ used → used ≤ length b.logarithms
+    ensures { (b : Book) → b.trie ≡ trie_in tables.entry → b.head.records ≡ used → used ≤ length b.logarithms
         → WalkedBlock b n room (take n chars.now) starts.new edge_ends.new edge_records.new result }
 {
     starts[0] = 0;
     let mut count: usize = 0;
-    let mut at: usize = 0;
-    while at < n {
-        match prefixes::prefixes_at(
-            roots,
-            slots,
-            shift,
+    for at in 0..n {
+        count = prefixes::prefixes_at(
+            tables,
             used,
             chars,
             n,
@@ -50,19 +45,8 @@ pub fn for_each_prefix_at_every_char(
             edge_records,
             room,
             count,
-        ) {
-            Prefixes::Edges(taken) => {
-                count = taken;
-            }
-            Prefixes::Full => {
-                return Prefixes::Full;
-            }
-            Prefixes::Damaged => {
-                return Prefixes::Damaged;
-            }
-        }
-        at += 1;
-        starts[at] = count;
+        )?;
+        starts[at + 1] = count;
     }
-    Prefixes::Edges(count)
+    Ok(count)
 }

@@ -2,8 +2,9 @@
 -- what is written so far, come to what all blocks of the sentence come to. A turn takes the run that starts there, which is the first of these blocks; if
 -- nothing stopped it, the blocks of the text from its end go on behind it.
 -- Assumes nothing.
+use Rattle.std.specs.Prelude.{Result, Ok, Err}
 use mathlib.Core.Path.{◌≡◌, refl, subst, ◌∙◌}
-use mathlib.Core.Bool.{Bool, true, false}
+use mathlib.Core.Bool.{Bool}
 use mathlib.Core.List.{List}
 use mathlib.Core.Option.{IsSome}
 use Prim.Native.Nat.{ℕ, ◌+◌, ◌≤◌}
@@ -12,9 +13,9 @@ use lib.ListN.{length, take}
 use Rattle.utf8.specs.Text.{chars_of, chars_from}
 use Rattle.utf8.proofs.Positions.{no_more_units}
 use Rattle.walk.proofs.Characters.{chars_start}
-use Rattle.book.specs.declared.Outcome.TheVariants.{Done}
-use Rattle.book.specs.Returns.{Book, is_done, longest_text}
-use Rattle.cuts.specs.declared.Cut.{Cut}
+use Rattle.book.specs.Returns.{Book, longest_text}
+use Rattle.book.proofs.Outcomes.{not_done}
+use Rattle.cuts.specs.declared.CutError.{CutError}
 use Rattle.cuts.specs.Blocks.{Block, blocks_of}
 use Rattle.cuts.specs.Slices.{block_of, Placed}
 use Rattle.cuts.specs.Tokens.{Base, Written, written}
@@ -64,7 +65,7 @@ module _ {kind : CharacterClass} {class : ℕ → Bool} {Lent : Book → Type 0}
   Ensured a = (b : Book) → Lent b → a ≡ cut_blocks (one b) start (blocks_of class (text_from s 0)) (written 0 tokens₀)
 
   -- the sentence ends
-  pub ends_here : length s ≤ at → Ensured (answer Done (written count tokens))
+  pub ends_here : length s ≤ at → Ensured (answer (Ok tt) (written count tokens))
   ends_here past b lent = no_block_left class s at past (one b) (base_at base at units) (written count tokens) ∙ here.same b lent
 
   -- the run that starts here is recorded: it lies within the sentence
@@ -84,22 +85,23 @@ module _ {kind : CharacterClass} {class : ℕ → Bool} {Lent : Book → Type 0}
     few_further = omega (arith, run.bytes, run.units, here.few_units, no_more_units (take r.chars chars))
 
     -- its block is cut
-    module _ (cut : Cut) (after : List ℕ)
+    module _ (cut : Result ℕ CutError) (after : List ℕ)
         (block : (b : Book) (place : Base) → Lent b → Placed place base (take r.chars chars) offsets
         → cut_answer cut after ≡ one b place (block_of r.matched (take r.chars chars)) (written count tokens)) where
       block_here : (b : Book) → Lent b → cut_answer cut after ≡ one b (base_at base at units) (block_of r.matched (take r.chars chars)) (written count tokens)
       block_here b lent = block b (base_at base at units) lent (placed class s at units r chars offsets of_class base here.short)
 
       -- and stopped
-      pub ends_stopped : is_done cut.outcome ≡ false → Ensured (cut_answer cut after)
-      ends_stopped other b lent =
-          block_stops class s at units r chars offsets of_class (one b) base (written count tokens) (cut_answer cut after) (block_here b lent) other
+      pub ends_stopped : {e : CutError} → cut ≡ Err e → Ensured (cut_answer (Err e) after)
+      ends_stopped {e} q b lent =
+          block_stops class s at units r chars offsets of_class (one b) base (written count tokens) (cut_answer (Err e) after) (rw q at (block_here b lent))
+          (not_done e.refusal)
           ∙ here.same b lent
 
       -- and its tokens are written, and the splitter is moved behind it
-      pub goes_behind : {at' : ℕ} → is_done cut.outcome ≡ true → at' ≡ r.end
-          → Cutting kind class Lent one s tokens₀ after at' r.units (base + r.chars) cut.count
-      goes_behind done moved =
+      pub goes_behind : {at' m : ℕ} → cut ≡ Ok m → at' ≡ r.end
+          → Cutting kind class Lent one s tokens₀ after at' r.units (base + r.chars) m
+      goes_behind {m = m} q moved =
           rw moved
           record {
             by_class = here.by_class;
@@ -109,6 +111,6 @@ module _ {kind : CharacterClass} {class : ℕ → Bool} {Lent : Book → Type 0}
             well_formed = run.well_formed;
             counted = run_within;
             same = λ b lent.
-                block_goes_on class s at units r chars offsets of_class (one b) base (written count tokens) (cut_answer cut after) (block_here b lent) done
+                block_goes_on class s at units r chars offsets of_class (one b) base (written count tokens) (cut_answer (Ok m) after) (rw q at (block_here b lent)) refl
                 ∙ here.same b lent;
           }

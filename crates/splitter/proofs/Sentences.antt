@@ -1,6 +1,7 @@
 -- A sentence by its blocks: what a cut that goes block by block comes to, whatever it does with a block. A run that is recorded is the first block of
 -- what is left (`Recorded`); the cut is that block's, and then, where it is done, that of the rest.
 -- Assumes nothing.
+use Rattle.std.specs.Prelude.{Ok}
 use mathlib.Core.Path.{◌≡◌, refl, sym, ap, ◌∙◌}
 use mathlib.Core.Bool.{Bool, true, false}
 use mathlib.Core.List.{List}
@@ -12,7 +13,6 @@ use lib.Seq.{length-take-le}
 use Rattle.utf8.specs.Text.{chars_of}
 use Rattle.utf8.proofs.Texts.{no_more_than_bytes}
 use Rattle.utf8.proofs.Positions.{from_start}
-use Rattle.book.specs.declared.Outcome.TheVariants.{Done}
 use Rattle.book.specs.Returns.{is_done, longest_text}
 use Rattle.cuts.specs.Blocks.{Block, blocks_of}
 use Rattle.cuts.specs.Slices.{block_of, Placed}
@@ -87,6 +87,6 @@ module _ (class : ℕ → Bool) (s : List ℕ) (at from : ℕ) (r : Run) (chars 
 
 -- at the sentence's end no block is left
 pub no_block_left : (class : ℕ → Bool) (s : List ℕ) (at : ℕ) → length s ≤ at → (one : Base → Block → Written → CutAnswer) (base : Base) (w : Written)
-    → answer Done w ≡ cut_blocks one base (blocks_of class (text_from s at)) w
+    → answer (Ok tt) w ≡ cut_blocks one base (blocks_of class (text_from s at)) w
 unfolding cut_blocks blocks_of
 no_block_left class s at past one base w = rw (text_end s at past) refl

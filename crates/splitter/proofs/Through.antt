@@ -9,9 +9,8 @@ use mathlib.Core.Path.{◌≡◌, refl, subst}
 use native.Mathlib.Omega.{arith}
 use borrow.Author.Tests.{ltb-true}
 use lib.ListN.{length, replicate, length-replicate}
-use Rattle.utf8.specs.declared.Character.{Character}
-use Rattle.utf8.specs.declared.Character.TheVariants.{Char, Malformed, End}
-use Rattle.utf8.specs.Characters.{character_at}
+use Rattle.std.specs.Prelude.{Ok, Err, Some, None}
+use Rattle.utf8.specs.Characters.{Read, char, malformed, character_at}
 use Rattle.utf8.specs.Text.{chars_from}
 use Rattle.utf8.proofs.Positions.{from_malformed, inside, not_within}
 use Rattle.walk.proofs.Characters.{chars_start}
@@ -34,7 +33,7 @@ module _ (class : ℕ → Bool) (s : List ℕ) (at : ℕ) where
   abbrev ARun : Type 0
   ARun = (r : Run) × (chars : List ℕ) × (offsets : List ℕ) × Recorded class s at 0 r chars offsets
 
-  malformed_not : (end : ℕ) → IsSome (chars_from s end) → character_at s end ≡ Malformed → ⊥
+  malformed_not : (end : ℕ) → IsSome (chars_from s end) → character_at s end ≡ malformed → ⊥
   malformed_not end well_formed e = rw (from_malformed s end e) at well_formed
 
   -- what is recorded so far is the run, or its next character is of the run's kind
@@ -43,17 +42,17 @@ module _ (class : ℕ → Bool) (s : List ℕ) (at : ℕ) where
     stop : EndsBefore class matched (text_from s end) → ARun
     stop ends = (_, _, _, run_recorded class s at 0 matched n end reached chars offsets so_far ends some_read (omega arith) _ refl)
 
-    run_or_more : ((c w u : ℕ) → character_at s end ≡ Char c w u → class c ≡ matched → ARun) → ARun
+    run_or_more : ((c w u : ℕ) → character_at s end ≡ char c w u → class c ≡ matched → ARun) → ARun
     run_or_more more = reads (character_at s end) refl
       where
-        takes : (c w u : ℕ) → character_at s end ≡ Char c w u → (other : Bool) → not (beq (class c) matched) ≡ other → ARun
+        takes : (c w u : ℕ) → character_at s end ≡ char c w u → (other : Bool) → not (beq (class c) matched) ≡ other → ARun
         takes c w u e true other = stop (ends_at_character class s at 0 matched n end reached chars offsets so_far c w u (class c) e refl other)
         takes c w u e false same = more c w u e (same_kind (class c) matched same)
 
-        reads : (ch : Character) → character_at s end ≡ ch → ARun
-        reads End e = stop (ends_with_text class s at 0 matched n end reached chars offsets so_far (not_within s end e))
-        reads Malformed e = absurd (malformed_not end so_far.well_formed e)
-        reads (Char c w u) e = takes c w u e (not (beq (class c) matched)) refl
+        reads : (ch : Read) → character_at s end ≡ ch → ARun
+        reads (Ok None) e = stop (ends_with_text class s at 0 matched n end reached chars offsets so_far (not_within s end e))
+        reads (Err y) e = absurd (malformed_not end so_far.well_formed e)
+        reads (Ok (Some q)) e = takes q.value q.width q.units e (not (beq (class q.value) matched)) refl
 
   -- and so on, with the bytes that are left
   go_on : (left : ℕ) (matched : Bool) (n end reached : ℕ) (chars offsets : List ℕ) → length s < end + left → 1 ≤ n → at + n ≤ end
@@ -74,10 +73,13 @@ module _ (class : ℕ → Bool) (s : List ℕ) (at : ℕ) where
       enough : length (text_from s at) < length room
       enough = rw (length-replicate {A = ℕ} (suc (length (text_from s at))) 0) (omega arith)
 
-      reads : (ch : Character) → character_at s at ≡ ch → ARun
-      reads End e = absurd (omega (arith, not_within s at e))
-      reads Malformed e = absurd (malformed_not at well_formed e)
-      reads (Char c w u) e =
+      reads : (ch : Read) → character_at s at ≡ ch → ARun
+      reads (Ok None) e = absurd (omega (arith, not_within s at e))
+      reads (Err y) e = absurd (malformed_not at well_formed e)
+      reads (Ok (Some q)) e =
+          let c : ℕ = q.value in
+          let w : ℕ = q.width in
+          let u : ℕ = q.units in
           go_on (length s) (class c) (0 + 1) (at + w) (packed at 0 + packed w u) _ _ (omega (arith, inside s at c w u e)) (omega arith) (omega (arith, inside s at c w u e))
           (one_more_read class s at 0 (class c) 0 at (packed at 0) room room
           (nothing_read class s at 0 (class c) room room within well_formed enough enough (packed at 0) refl) c w u e refl _ refl)

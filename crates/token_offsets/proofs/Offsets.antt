@@ -2,6 +2,7 @@
 -- together are the sentence's characters, so each block stands behind those before it, which are the characters that its base counts. Refusals and damage
 -- only end the writing.
 -- Assumes nothing.
+use Rattle.std.specs.Prelude.{Err}
 use Prim.Native.Nat.{ℕ, ◌+◌, ◌%◌, ◌≤◌}
 use mathlib.Core.Bool.{Bool, cond, ◌&&◌, beq}
 use mathlib.Core.List.{List, [], ◌∷◌, ◌++◌, append_assoc}
@@ -14,7 +15,7 @@ use lib.ListN.{length}
 use Rattle.classes.specs.Blocks.{cut_class, cut_all_class}
 use Rattle.utf8.specs.Text.{chars_of}
 use Rattle.score.specs.Logarithm.{log_float}
-use Rattle.book.specs.declared.Outcome.TheVariants.{Damaged}
+use Rattle.book.specs.declared.Refusal.TheVariants.{Damaged}
 use Rattle.book.specs.Returns.{Book, is_done, longest_text}
 use Rattle.book.specs.Prefixes.{Walked}
 use Rattle.cuts.specs.declared.TokenizeMode.TheVariants.{Default, Search}
@@ -78,7 +79,7 @@ module _ (cs : List ℕ) where
     told_walks words ahead at (c ∷ left) inside w told =
         let walk : Walked = words at (c ∷ left) in
         told_then (put_spans (base_of before) chars w (spans_of at walk.edges))
-        (λ (u : Written). cond walk.damaged (answer Damaged u) (put_walks (base_of before) chars (at + 1) u (walks_of words (at + 1) left)))
+        (λ (u : Written). cond walk.damaged (answer (Err Damaged) u) (put_walks (base_of before) chars (at + 1) u (walks_of words (at + 1) left)))
         (told_spans (spans_of at walk.edges) (spans_within (length chars) at walk.edges (ahead (length chars) at (c ∷ left) inside)) w told)
         (λ u so_far. by_cond (EachCounts cs) walk.damaged (λ damaged. so_far) (λ sound. told_walks words ahead (at + 1) left (omega arith) u so_far))
 

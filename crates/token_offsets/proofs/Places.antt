@@ -2,6 +2,7 @@
 -- the token of a span within a block counts: what stands before a position of the block is what stands before the block, and then the block's characters up
 -- to there, and the bytes and the code units of two parts of a text add up.
 -- Assumes nothing.
+use Rattle.std.specs.Prelude.{Ok}
 use Prim.Native.Nat.{ℕ, zero, suc, ◌+◌, ◌*◌, ◌/◌, ◌≤◌, ◌<◌}
 use mathlib.Core.Bool.{true}
 use mathlib.Core.List.{List, [], ◌∷◌, ◌++◌}
@@ -15,7 +16,6 @@ use Rattle.utf8.specs.Utf16.{encode_text_utf16, unit_length}
 use Rattle.utf8.proofs.Positions.{byte_length_append}
 use Rattle.utf8.proofs.Utf16.{units_of_encoding, unit_length_append}
 use Rattle.score.proofs.Tests.{by_leb}
-use Rattle.book.specs.declared.Outcome.TheVariants.{Done}
 use Rattle.cuts.specs.declared.Token.{Token}
 use Rattle.cuts.specs.Tokens.{Span, Base, token_of, numbers_of, token_width, Written, has_place, put}
 use Rattle.cuts.specs.Cuts.{answer, behind, start}
@@ -80,7 +80,7 @@ base_behind before block = rw (length-append before block, byte_length_append be
 module _ (cs : List ℕ) where
   -- each token that is written so far counts
   abbrev pub Told : Written → Type 0
-  Told w = EachCounts cs (answer Done w)
+  Told w = EachCounts cs (answer (Ok tt) w)
 
   pub put_told : (w : Written) (t : Token) → has_place w ≡ true → Told w → Counts cs t → Told (put w t)
   put_told w t place told counts k h =

@@ -12,15 +12,12 @@ use borrow.Author.Tests.{leb-true, ltb-true}
 use lib.Dec.{eqb, ltb}
 use lib.Ieee.{Float}
 use lib.ListN.{length, get_or, drop, length-take}
+use Rattle.std.specs.Prelude.{Ok, Err, Some, None}
 use Rattle.classes.specs.Tokens.{joins, connector}
 use Rattle.utf8.specs.Encoding.{byte_length}
 use Rattle.trie.specs.declared.ParentRef.{ParentRef}
 use Rattle.trie.specs.declared.ParentRef.TheVariants.{Root}
-use Rattle.trie.specs.declared.Step.{Step}
-use Rattle.trie.specs.declared.Step.TheVariants.{At, Nothing, Damaged}
-use Rattle.trie.specs.declared.WordNumber.{WordNumber}
-use Rattle.trie.specs.declared.WordNumber.TheVariants.{NoWord, Record, Bad}
-use Rattle.trie.specs.Trie.{tested_step, word_at}
+use Rattle.trie.specs.Trie.{tested_step, word_at, Step, WordNumber}
 use Rattle.book.specs.Returns.{Book}
 use Rattle.book.specs.Prefixes.{Edge, Walked, ended, broken, met_before, walk_on, words_from}
 use Rattle.route.specs.Route.{Best, choose, route_of}
@@ -76,9 +73,9 @@ EdgeAhead n at e = Ahead n at e.end
 module _ (b : Book) (n from : ℕ) where
   met_ahead : (number : WordNumber) (next : ℕ) (w : Walked) → Ahead n from next → Each (EdgeAhead n from) w.edges
       → Each (EdgeAhead n from) (met_before b number next w).edges
-  met_ahead NoWord next w here rest = rest
-  met_ahead (Record k) next w here rest = (here, rest)
-  met_ahead Bad next w here rest = tt
+  met_ahead (Ok None) next w here rest = rest
+  met_ahead (Ok (Some k)) next w here rest = (here, rest)
+  met_ahead (Err d) next w here rest = tt
 
   walk_ahead : (cs : List ℕ) (p : ParentRef) (at : ℕ) → from ≤ at → at + length cs ≤ n → Each (EdgeAhead n from) (walk_on b p at cs).edges
   unfolding walk_on
@@ -87,15 +84,15 @@ module _ (b : Book) (n from : ℕ) where
     where
       onward : Step → Walked
       onward s = elim s [
-        | At q ↦ met_before b (word_at b.head.records b.trie q) (at + 1) (walk_on b q (at + 1) cs)
-        | Nothing ↦ ended
-        | Damaged ↦ broken
+        | Ok (Some q) ↦ met_before b (word_at b.head.records b.trie q) (at + 1) (walk_on b q (at + 1) cs)
+        | Ok None ↦ ended
+        | Err d ↦ broken
       ]
 
       by : ((q : ParentRef) → Each (EdgeAhead n from) (walk_on b q (at + 1) cs).edges) → (s : Step) → Each (EdgeAhead n from) (onward s).edges
-      by rest (At q) = met_ahead (word_at b.head.records b.trie q) (at + 1) (walk_on b q (at + 1) cs) (omega arith, omega arith) (rest q)
-      by rest Nothing = tt
-      by rest Damaged = tt
+      by rest (Ok (Some q)) = met_ahead (word_at b.head.records b.trie q) (at + 1) (walk_on b q (at + 1) cs) (omega arith, omega arith) (rest q)
+      by rest (Ok None) = tt
+      by rest (Err d) = tt
 
 -- of what a cut sees of a book: the words that start at a position end behind it, within the characters that follow
 abbrev pub WordsAhead : (ℕ → List ℕ → Walked) → Type 0

@@ -13,7 +13,7 @@ ghost use Rattle.cuts.specs.Cuts.{cut_answer, tested_book, begins, tokenize_of};
 ghost use Rattle.cut_sentence.specs.Areas.{work_of, room_of};
 
 use book::Head;
-use cuts::{Cut, TokenizeMode};
+use cuts::{CutError, TokenizeMode};
 
 // Cuts a sentence into words: by `Default` as `cut`, by `Search` as `cut_for_search`.
 pub fn tokenize(
@@ -33,7 +33,7 @@ pub fn tokenize(
     edge_ends: &mut [u32],
     edge_records: &mut [u32],
     tokens: &mut [u32],
-) -> Cut
+) -> Result<usize, CutError>
     ensures tokens_value { cut_answer result tokens.new ≡ tokenize_of mode (book_in head roots.now slots.now records.now logarithms.now)
         (work_of chars.old offsets.old starts.old scores.old ends.old route_records.old) (room_of edge_ends.old edge_records.old) tokens.old sentence.now }
     ensures unchanged { begins (tested_book (book_in head roots.now slots.now records.now logarithms.now))

@@ -1,5 +1,6 @@
 -- One token in the token area: the three pairs that `put_token` writes, and what `emit_span` answers where there is a place and where there is none.
 -- Assumes nothing.
+use Rattle.std.specs.Prelude.{Ok, Err}
 use Prim.Native.Nat.{ℕ, suc, ◌+◌, ◌*◌, ◌/◌, ◌%◌, ◌^◌, ◌≤◌, ◌<◌}
 use mathlib.Core.List.{List, [], ◌∷◌}
 use mathlib.Core.Path.{◌≡◌, sym, ap, ◌∙◌}
@@ -7,7 +8,7 @@ use native.Mathlib.Omega.{arith}
 use borrow.Author.Tests.{lt-ltb, le-ltb}
 use lib.ListN.{length, get_or, set}
 use lib.Seq.{sets}
-use Rattle.book.specs.declared.Outcome.TheVariants.{Done, TokensFull}
+use Rattle.book.specs.declared.Refusal.TheVariants.{TokensFull}
 use Rattle.cuts.specs.declared.Token.{Token}
 use Rattle.cuts.specs.Slices.{Placed}
 use Rattle.cuts.specs.Tokens.{span, Base, token_of, numbers_of, token_width, written}
@@ -59,12 +60,12 @@ module _ (place : Base) (base x y count : ℕ) (chars offsets area : List ℕ) w
       → x ≤ y
       → Placed place base chars offsets
       → y ≤ length chars
-      → answer Done (written (count + 1) after) ≡ put_spans place chars (written count area) (span x y ∷ [])
+      → answer (Ok tt) (written (count + 1) after) ≡ put_spans place chars (written count area) (span x y ∷ [])
   emitted after free e forward known inside =
-      ap (λ (l : List ℕ). answer Done (written (count + 1) l)) e
-      ∙ ap (λ (t : Token). answer Done (written (count + 1) (sets area (count * token_width) (numbers_of t)))) (token_of_lem known forward inside)
+      ap (λ (l : List ℕ). answer (Ok tt) (written (count + 1) l)) e
+      ∙ ap (λ (t : Token). answer (Ok tt) (written (count + 1) (sets area (count * token_width) (numbers_of t)))) (token_of_lem known forward inside)
       ∙ sym (put_one place chars (written count area) (span x y) (lt-ltb count (length area / token_width) free))
 
   pub no_place : length area / token_width ≤ count
-      → answer TokensFull (written count area) ≡ put_spans place chars (written count area) (span x y ∷ [])
+      → answer (Err TokensFull) (written count area) ≡ put_spans place chars (written count area) (span x y ∷ [])
   no_place full = sym (put_refused place chars (written count area) (span x y) (le-ltb count (length area / token_width) full))

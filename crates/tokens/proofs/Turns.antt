@@ -2,15 +2,13 @@
 -- spans start where they end. What is kept at each turn is `Putting`: the spans from x on, put after what is written so far, come to what all spans of
 -- the block come to, wherever the block stands.
 -- Assumes nothing.
+use Rattle.std.specs.Prelude.{Result, Ok, Err}
 use Prim.Native.Nat.{ℕ, ◌≤◌, ◌<◌}
-use mathlib.Core.Bool.{true, false}
 use mathlib.Core.List.{List, [], ◌∷◌, ◌++◌}
 use mathlib.Core.Path.{◌≡◌, refl, ap, ◌∙◌}
 use native.Mathlib.Omega.{arith}
 use lib.ListN.{length}
-use Rattle.book.specs.declared.Outcome.TheVariants.{Done}
-use Rattle.book.specs.Returns.{is_done}
-use Rattle.cuts.specs.declared.Cut.{Cut}
+use Rattle.cuts.specs.declared.CutError.{CutError}
 use Rattle.cuts.specs.Slices.{Placed}
 use Rattle.cuts.specs.Tokens.{Span, span, Base, written}
 use Rattle.cuts.specs.Cuts.{CutAnswer, answer, cut_answer, put_spans}
@@ -43,20 +41,20 @@ module _ (chars offsets : List ℕ) (n base : ℕ) (rest : ℕ → List Span) (a
 
   module _ {area : List ℕ} {count x : ℕ} (here : Putting area count x) where
     -- no span is left
-    pub ends : rest x ≡ [] → All (answer Done (written count area))
+    pub ends : rest x ≡ [] → All (answer (Ok tt) (written count area))
     ends none spans all place known =
         all_put place chars (written count area) (here.same place known) none
         ∙ ap (put_spans place chars (written count₀ area₀)) all
 
     -- some spans, which a call answers with r
-    module _ {y : ℕ} {these : List Span} (turn : Turning n rest x y these) (r : Cut) (after : List ℕ)
+    module _ {y : ℕ} {these : List Span} (turn : Turning n rest x y these) (r : Result ℕ CutError) (after : List ℕ)
         (put : (place : Base) → Placed place base chars offsets → cut_answer r after ≡ put_spans place chars (written count area) these) where
-      pub refused : is_done r.outcome ≡ false → All (cut_answer r after)
+      pub refused : {e : CutError} → r ≡ Err e → All (cut_answer (Err e) after)
       refused e spans all place known =
           stops_there place chars (written count area) (here.same place known) these (rest y) turn.first r after (put place known) e
           ∙ ap (put_spans place chars (written count₀ area₀)) all
 
-      pub one_more : is_done r.outcome ≡ true → length after ≡ length area → Putting after r.count y
+      pub one_more : {m : ℕ} → r ≡ Ok m → length after ≡ length area → Putting after m y
       one_more e kept =
           record {
             inside = turn.inside;
@@ -66,7 +64,7 @@ module _ (chars offsets : List ℕ) (n base : ℕ) (rest : ℕ → List Span) (a
           }
 
 -- what `emit_span` answers of a span that ends at y, of a block of n characters
-pub emitted_in : (chars offsets : List ℕ) (n base x y count : ℕ) (area : List ℕ) (r : Cut) (after : List ℕ) → length chars ≡ n → y ≤ n
+pub emitted_in : (chars offsets : List ℕ) (n base x y count : ℕ) (area : List ℕ) (r : Result ℕ CutError) (after : List ℕ) → length chars ≡ n → y ≤ n
     → ((place : Base) (cs : List ℕ) → Placed place base cs offsets → y ≤ length cs → cut_answer r after ≡ put_spans place cs (written count area) (span x y ∷ []))
     → (place : Base) → Placed place base chars offsets → cut_answer r after ≡ put_spans place chars (written count area) (span x y ∷ [])
 emitted_in chars offsets n base x y count area r after long inside put place known = put place chars known (omega arith)

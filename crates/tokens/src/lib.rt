@@ -15,8 +15,8 @@ ghost use Rattle.cuts.specs.Tokens.{span, Base, numbers_of, token_width, written
 ghost use Rattle.cuts.specs.Cuts.{cut_answer, put_spans};
 ghost use Rattle.tokens.specs.Places.{token_from};
 
-use book::Outcome;
-use cuts::{ByteOffsets, CharOffsets, Cut, Utf16Offsets};
+use book::Refusal;
+use cuts::{ByteOffsets, CharOffsets, CutError, Utf16Offsets};
 
 // Writes a start and an end, counted in one unit.
 fn put_pair(tokens: &mut [u32], at: usize, start: u32, end: u32)
@@ -53,20 +53,17 @@ pub fn emit_span(
     y: usize,
     tokens: &mut [u32],
     count: usize,
-) -> Cut
+) -> Result<usize, CutError>
     requires { (x ≤ y) × (y < length offsets.now) × (base + y ≤ longest_text) }
     ensures { (place : Base) (chars : List ℕ) → Placed place base chars offsets.now → y ≤ length chars
         → cut_answer result tokens.new ≡ put_spans place chars (written count tokens.old) (span x y ∷ []) }
 {
     if count < tokens.len() / cuts::TOKEN_WIDTH {
         put_token(tokens, count, base, x, y, offsets);
-        return Cut {
-            outcome: Outcome::Done,
-            count: count + 1,
-        };
+        return Ok(count + 1);
     }
-    Cut {
-        outcome: Outcome::TokensFull,
+    Err(CutError {
+        refusal: Refusal::TokensFull,
         count,
-    }
+    })
 }

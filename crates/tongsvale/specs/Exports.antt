@@ -1,14 +1,14 @@
 -- What the exports of the static library answer: what the public calls return, in document 01's numbers (`Returned`). A head crosses as four numbers in
 -- a slice (`numbers/specs/Numbers.antt`); a slice of another length is an area outside the sizes, so 1.
 -- Assumes nothing.
-use Rattle.std.specs.Prelude.{ℕ, Bool, cond, ◌&&◌, List, eqb, Float, length}
+use Rattle.std.specs.Prelude.{ℕ, Bool, cond, ◌&&◌, List, eqb, Float, length, Result, Ok, Err}
 use Rattle.trie.specs.Trie.{CharTrie}
-use Rattle.book.specs.declared.Prepared.{Prepared}
-use Rattle.book.specs.declared.Prepared.TheVariants.{Ready, Refused}
+use Rattle.book.specs.declared.Head.{Head}
+use Rattle.book.specs.declared.Refusal.{Refusal}
 use Rattle.book.specs.Areas.{book_of}
 use Rattle.book.specs.Returns.{Book, number_of, PrepareAnswer, prepare_of}
 use Rattle.book.specs.Enter.{LoadAnswer, AddAnswer, load_of, add_of}
-use Rattle.book.specs.Numbers.{Returned, prepared_returns, loaded_returns, added_returns, lookup_returns}
+use Rattle.book.specs.Numbers.{Returned, value, returned, prepared_returns, lookup_returns}
 use Rattle.cuts.specs.Cuts.{CutAnswer, tested_book, begins, cut_of, cut_for_search_of, tokenize_of, cut_all_of}
 use Rattle.numbers.specs.declared.FoundNumbers.{FoundNumbers}
 use Rattle.numbers.specs.Numbers.{head_length, head_of, head_numbers, value_of, found_numbers, found_as, is_mode, mode_of}
@@ -38,9 +38,9 @@ abbrev pub returned_with : Returned → List ℕ → CharTrie → List ℕ → L
 returned_with r = exported r.number (value_of r.beside)
 
 -- the head's slice afterwards: a refusal leaves it
-abbrev pub head_after : List ℕ → Prepared → List ℕ
-head_after h (Ready head) = head_numbers head
-head_after h (Refused o) = h
+abbrev pub head_after : List ℕ → Result Head Refusal → List ℕ
+head_after h (Ok head) = head_numbers head
+head_after h (Err r) = h
 
 abbrev pub prepared_as : List ℕ → PrepareAnswer → Exported
 prepared_as h a = returned_with (prepared_returns a.prepared) (head_after h a.prepared) a.trie a.records a.logarithms
@@ -53,13 +53,13 @@ abbrev pub with_book : Returned → Book → Exported
 with_book r b = returned_with r (head_numbers b.head) b.trie b.records b.logarithms
 
 abbrev pub loaded_as : LoadAnswer → Exported
-loaded_as a = with_book (loaded_returns a.outcome a.line) a.book
+loaded_as a = with_book (returned (number_of a.outcome) (value a.line)) a.book
 
 unfoldable pub load_export : List ℕ → CharTrie → List ℕ → List Float → List ℕ → Exported
 load_export h t r l text = cond (eqb (length h) head_length) (loaded_as (load_of (book_of (head_of h) t r l) text)) (exported bad_areas 0 h t r l)
 
 abbrev pub added_as : AddAnswer → Exported
-added_as a = with_book (added_returns a.outcome a.frequency) a.book
+added_as a = with_book (returned (number_of a.outcome) (value a.frequency)) a.book
 
 unfoldable pub add_export : List ℕ → CharTrie → List ℕ → List Float → List ℕ → ℕ → Exported
 add_export h t r l word frequency = cond (eqb (length h) head_length) (added_as (add_of (book_of (head_of h) t r l) word frequency)) (exported bad_areas 0 h t r l)

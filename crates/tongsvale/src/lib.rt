@@ -6,19 +6,21 @@
 #![tactic(auto)]
 
 ghost use Rattle.trie.specs.Trie.{trie_of};
-ghost use Rattle.std.specs.Prelude.{◌≡◌, false, ◌&&◌};
+ghost use Rattle.std.specs.Prelude.{◌≡◌, List, ℕ, false, ◌&&◌};
 ghost use Rattle.book.specs.Returns.{number_of};
 ghost use Rattle.cuts.specs.Slices.{Unchanged};
+ghost use Rattle.cuts.specs.Cuts.{cut_answer};
 ghost use Rattle.cut_sentence.specs.Areas as CutAreas;
 ghost use Rattle.cut_all.specs.Areas as CutAllAreas;
 ghost use Rattle.numbers.specs.Numbers.{found_numbers, is_mode};
 ghost use Rattle.tongsvale.specs.Exports.{abi, exported, prepare_export, load_export, add_export, lookup_export, bad_areas, cut_numbers};
 ghost use Rattle.tongsvale.specs.Exports.{cut_export, cut_for_search_export, tokenize_export, cut_all_export, cut_begins};
 
-use book::{Outcome, Prepared};
-use cuts::Cut;
+use book::{LoadError, Refusal};
+use cuts::CutError;
 
 // What a load returns: its number and its line.
+// Kept: these four are the C interface (`include/tongsvale.h`), numbers side by side.
 #[repr(C)]
 #[derive(Clone, Copy)]
 pub struct TongsvaleLoaded {
@@ -52,13 +54,15 @@ pub struct TongsvaleCut {
 }
 
 // What a cut answers, in numbers.
-fn returned(cut: Cut) -> TongsvaleCut
-    ensures { (result.number ≡ number_of cut.outcome) × (result.count ≡ cut.count) }
+fn returned(cut: Result<usize, CutError>) -> TongsvaleCut
+    ensures { (area : List ℕ) → (result.number ≡ number_of (cut_answer cut area).outcome) × (result.count ≡ (cut_answer cut area).written.count) }
 {
-    let outcome = cut.outcome;
-    TongsvaleCut {
-        number: book::number_of(outcome),
-        count: cut.count,
+    match cut {
+        Ok(count) => TongsvaleCut { number: 0, count },
+        Err(CutError { refusal, count }) => TongsvaleCut {
+            number: book::number_of(Err(refusal)),
+            count,
+        },
     }
 }
 
@@ -66,10 +70,10 @@ fn returned(cut: Cut) -> TongsvaleCut
 fn refused() -> TongsvaleCut
     ensures { (result.number ≡ bad_areas) × (result.count ≡ 0) }
 {
-    returned(Cut {
-        outcome: Outcome::BadAreas,
+    TongsvaleCut {
+        number: book::number_of(Err(Refusal::BadAreas)),
         count: 0,
-    })
+    }
 }
 
 // The number of the interface, which the symbol bears too: a program compiled with a header of another number refers to another
@@ -94,14 +98,14 @@ pub extern "C" fn tongsvale_prepare(
         ≡ prepare_export head.old (trie_of roots.old slots.old) records.old logarithms.old }
 {
     if head.len() != numbers::HEAD_LENGTH {
-        return book::number_of(Outcome::BadAreas);
+        return book::number_of(Err(Refusal::BadAreas));
     }
     match prepare::prepare(roots, slots, records, logarithms) {
-        Prepared::Ready(value) => {
+        Ok(value) => {
             numbers::write_head(head, value);
             0
         }
-        Prepared::Refused(outcome) => book::number_of(outcome),
+        Err(refusal) => book::number_of(Err(refusal)),
     }
 }
 
@@ -120,24 +124,19 @@ pub extern "C" fn tongsvale_load(
 {
     if head.len() != numbers::HEAD_LENGTH {
         return TongsvaleLoaded {
-            number: book::number_of(Outcome::BadAreas),
+            number: book::number_of(Err(Refusal::BadAreas)),
             line: 0,
         };
     }
-    let loaded = dict::load_dict(
-        numbers::read_head(head),
-        roots,
-        slots,
-        records,
-        logarithms,
-        text,
-    );
-    let outcome = loaded.outcome;
-    let value = loaded.head;
+    let mut value = numbers::read_head(head);
+    let loaded = dict::load_dict(&mut value, roots, slots, records, logarithms, text);
     numbers::write_head(head, value);
-    TongsvaleLoaded {
-        number: book::number_of(outcome),
-        line: loaded.line,
+    match loaded {
+        Ok(line) => TongsvaleLoaded { number: 0, line },
+        Err(LoadError { refusal, line }) => TongsvaleLoaded {
+            number: book::number_of(Err(refusal)),
+            line,
+        },
     }
 }
 
@@ -157,25 +156,24 @@ pub extern "C" fn tongsvale_add(
 {
     if head.len() != numbers::HEAD_LENGTH {
         return TongsvaleAdded {
-            number: book::number_of(Outcome::BadAreas),
+            number: book::number_of(Err(Refusal::BadAreas)),
             frequency: 0,
         };
     }
+    let mut value = numbers::read_head(head);
     let added = addition::add_word(
-        numbers::read_head(head),
-        roots,
-        slots,
-        records,
-        logarithms,
-        word,
-        frequency,
+        &mut value, roots, slots, records, logarithms, word, frequency,
     );
-    let outcome = added.outcome;
-    let value = added.head;
     numbers::write_head(head, value);
-    TongsvaleAdded {
-        number: book::number_of(outcome),
-        frequency: added.frequency,
+    match added {
+        Ok(frequency) => TongsvaleAdded {
+            number: 0,
+            frequency,
+        },
+        Err(refusal) => TongsvaleAdded {
+            number: book::number_of(Err(refusal)),
+            frequency: 0,
+        },
     }
 }
 
@@ -194,7 +192,7 @@ pub extern "C" fn tongsvale_lookup(
 {
     if head.len() != numbers::HEAD_LENGTH {
         return TongsvaleFound {
-            number: book::number_of(Outcome::BadAreas),
+            number: book::number_of(Err(Refusal::BadAreas)),
             held: 0,
             frequency: 0,
         };

@@ -1,5 +1,6 @@
 -- Proofs of the claims, and the laws that the functions' proofs, here and in the crates above, cite.
-pub mod Slots
+pub mod SlotCounts
 pub mod Probes
+pub mod Damage
 pub mod Steps
 pub mod Packed

@@ -12,11 +12,11 @@ use lib.IntN.{pos}
 use lib.ListN.{length, get_or, set, take, drop, replicate, length-drop, length-map, get_or-map}
 use lib.Pow.{field, mod-mod-pow}
 use lib.Seq.{get_or-drop, map-set_same}
+use Rattle.std.specs.Prelude.{Ok, Err, Some, None}
 use Rattle.arith.specs.Bits.{bit_of, has_bit, with_bit}
 use Rattle.arith.proofs.Bits.{keeps_high_bits, stays_within_width}
-use Rattle.trie.specs.declared.WordNumber.TheVariants.{NoWord, Record, Bad}
 use Rattle.trie.specs.Claims.{TablesTellSlices}
-use Rattle.trie.specs.Trie.{CharTrie, no_word, word_number, child_of, word_before, word_of, children_of, words_of, firsts, keys_of, links_of}
+use Rattle.trie.specs.Trie.{CharTrie, no_word, word_number, child_of, word_before, word_of, children_of, words_of, firsts, keys_of, links_of, damage}
 
 -- ---- one link
 
@@ -29,7 +29,7 @@ unfolding word_of
 word_after link n e = rw e
 
 module _ (link used : ℕ) where
-  pub no_word_lem : link / 2 ^ 32 ≡ 0 → NoWord ≡ word_number used (word_of link)
+  pub no_word_lem : link / 2 ^ 32 ≡ 0 → Ok None ≡ word_number used (word_of link)
   unfolding word_number word_of
   no_word_lem e = rw e
 
@@ -37,11 +37,11 @@ module _ (link used : ℕ) where
     is : word_of link ≡ pos (link / 2 ^ 32 - 1)
     is = word_after link (link / 2 ^ 32 - 1) (omega arith)
 
-    pub is_record : link / 2 ^ 32 ≤ used → Record (link / 2 ^ 32 - 1) ≡ word_number used (word_of link)
+    pub is_record : link / 2 ^ 32 ≤ used → Ok (Some (link / 2 ^ 32 - 1)) ≡ word_number used (word_of link)
     unfolding word_number
     is_record h = rw (is, lt-ltb (link / 2 ^ 32 - 1) used (omega arith))
 
-    pub is_bad : used < link / 2 ^ 32 → Bad ≡ word_number used (word_of link)
+    pub is_bad : used < link / 2 ^ 32 → Err damage ≡ word_number used (word_of link)
     unfolding word_number
     is_bad h = rw (is, le-ltb (link / 2 ^ 32 - 1) used (omega arith))
 

@@ -11,14 +11,10 @@ use borrow.Author.Tests.{eq-eqb, not-true, not-false}
 use lib.ListN.{length, get_or, set}
 use lib.Pow.{pow_pos, ones_lt, ones_split, high}
 use lib.Seq.{get_or-set_same}
+use Rattle.std.specs.Prelude.{Ok, None}
 use Rattle.arith.specs.Bits.{has_bit, with_bit}
 use Rattle.arith.proofs.Bits.{sets_its_bit}
-use Rattle.trie.specs.declared.ParentRef.TheVariants.{Slot}
-use Rattle.trie.specs.declared.Probe.{Probe}
-use Rattle.trie.specs.declared.Probe.TheVariants.{Found, Empty, Endless}
-use Rattle.trie.specs.declared.Step.{Step}
-use Rattle.trie.specs.declared.Step.TheVariants.{At, Nothing, Damaged}
-use Rattle.trie.specs.Trie.{key_of, filter_hash, key_bit, child_bit, node_at, from_root, probe_of, step_by_probe, open_step, bits_at, with_bits, tested_step, step_from}
+use Rattle.trie.specs.Trie.{key_of, filter_hash, key_bit, child_bit, node_at, from_root, probe_of, step_by_probe, open_step, bits_at, with_bits, tested_step, step_from, Step}
 use Rattle.trie.specs.Claims.{KeyBitRange, ChildBitRange, SetsTestedBits, StepsFromSlot, all_ones, StepsFromRootEntry}
 
 -- ---- bits
@@ -83,26 +79,13 @@ sets_tested_bits t ch i = (
   λ h k. and-true _ _ (bit_there t.keys i (key_bit ch) h) (bit_there t.children i (child_bit ch) k),
 )
 
--- ---- a step as the code takes it: the probe, after the key's bit and the child's bit
-
-module _ (keys : List ℕ) (node ch key : ℕ) (packed : key ≡ key_of node ch) (p : Probe) (probed : p ≡ probe_of keys key) where
-  by_probe : step_by_probe p ≡ step_by_probe (probe_of keys (key_of node ch))
-  by_probe = rw (probed, packed)
-
-  pub slot_found : (i : ℕ) → p ≡ Found i → At (Slot i) ≡ step_by_probe (probe_of keys (key_of node ch))
-  slot_found i e = ap step_by_probe (sym e) ∙ by_probe
-
-  pub slot_empty : (i : ℕ) → p ≡ Empty i → Nothing ≡ step_by_probe (probe_of keys (key_of node ch))
-  slot_empty i e = ap step_by_probe (sym e) ∙ by_probe
-
-  pub slot_endless : p ≡ Endless → Damaged ≡ step_by_probe (probe_of keys (key_of node ch))
-  slot_endless e = ap step_by_probe (sym e) ∙ by_probe
+-- ---- a step as the code takes it: after the key's bit and the child's bit, the probe
 
 module _ (keys : List ℕ) (filter child ch bit : ℕ) (bit_is : bit ≡ key_bit ch) (a : Bool) (first : a ≡ has_bit filter bit) where
   at_key : has_bit filter (key_bit ch) ≡ a
   at_key = rw (← bit_is) (sym first)
 
-  pub key_bit_missing : not a ≡ true → Nothing ≡ step_from keys filter child ch
+  pub key_bit_missing : not a ≡ true → Ok None ≡ step_from keys filter child ch
   unfolding step_from
   key_bit_missing missing = rw (at_key, not-true a missing, step_from)
 
@@ -110,7 +93,7 @@ module _ (keys : List ℕ) (filter child ch bit : ℕ) (bit_is : bit ≡ key_bit
     at_child : has_bit child (child_bit ch) ≡ b
     at_child = rw (← bit_is') (sym second)
 
-    pub child_bit_missing : not b ≡ true → Nothing ≡ step_from keys filter child ch
+    pub child_bit_missing : not b ≡ true → Ok None ≡ step_from keys filter child ch
     unfolding step_from
     child_bit_missing missing = rw (at_key, not-false a set, at_child, not-true b missing, step_from)
 

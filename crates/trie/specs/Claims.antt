@@ -1,8 +1,8 @@
 -- What is claimed of the definitions of `Trie`: where probes start and end, which bits a character has, that an insertion sets
 -- the bits that a lookup tests, that a walk may step from the numbers that it has read, and that the tables tell every number that is lent.
--- Proofs: `proofs/Slots.antt`, `proofs/Probes.antt`, `proofs/Steps.antt`, `proofs/Packed.antt`.
+-- Proofs: `proofs/SlotCounts.antt`, `proofs/Probes.antt`, `proofs/Steps.antt`, `proofs/Packed.antt`.
 -- Assumes nothing.
-use Rattle.std.specs.Prelude.{ℕ, ◌-◌, ◌%◌, ◌^◌, ◌≤◌, ◌<◌, true, List, ◌≡◌, length, get_or}
+use Rattle.std.specs.Prelude.{ℕ, ◌-◌, ◌%◌, ◌^◌, ◌≤◌, ◌<◌, true, List, ◌≡◌, length, get_or, Ok}
 use Rattle.trie.specs.declared.ParentRef.TheVariants.{RootEntry, Slot}
 use Rattle.trie.specs.declared.Probe.TheVariants.{Found, Empty}
 use Rattle.trie.specs.Trie.{CharTrie, trie_of, SlotCount, start_slot, probe_of, empty_slot, key_bit, child_bit, bits_at, with_bits, tested_step, step_from}
@@ -18,15 +18,15 @@ StartsAtSlot = (slots key : ℕ) → SlotCount slots → start_slot slots key < 
 
 -- a probe that finds its key ends at a slot whose low 48 bits are the key
 abbrev pub FoundHasKey : Type 0
-FoundHasKey = (keys : List ℕ) (key i : ℕ) → SlotCount (length keys) → probe_of keys key ≡ Found i → (i < length keys) × (get_or keys i 0 % 2 ^ 48 ≡ key)
+FoundHasKey = (keys : List ℕ) (key i : ℕ) → SlotCount (length keys) → probe_of keys key ≡ Ok (Found i) → (i < length keys) × (get_or keys i 0 % 2 ^ 48 ≡ key)
 
 -- one that does not ends at an empty slot
 abbrev pub EmptyHasNoKey : Type 0
-EmptyHasNoKey = (keys : List ℕ) (key i : ℕ) → SlotCount (length keys) → probe_of keys key ≡ Empty i → (i < length keys) × (get_or keys i 0 ≡ 0)
+EmptyHasNoKey = (keys : List ℕ) (key i : ℕ) → SlotCount (length keys) → probe_of keys key ≡ Ok (Empty i) → (i < length keys) × (get_or keys i 0 ≡ 0)
 
 -- a new step goes to an empty slot
 abbrev pub EmptySlotIsEmpty : Type 0
-EmptySlotIsEmpty = (keys : List ℕ) (key i : ℕ) → SlotCount (length keys) → empty_slot keys key ≡ Empty i → (i < length keys) × (get_or keys i 0 ≡ 0)
+EmptySlotIsEmpty = (keys : List ℕ) (key i : ℕ) → SlotCount (length keys) → empty_slot keys key ≡ Ok i → (i < length keys) × (get_or keys i 0 ≡ 0)
 
 -- the bits of a character lie above a key's low 48 bits, and above a child's node
 abbrev pub KeyBitRange : Type 0

@@ -1,19 +1,29 @@
 -- The trie: document 01, "Into the trie: `CharTrie::insert`", with the emptiness and the word numbers of "What each call returns".
 -- Every definition is total: it says what is done with any content of the tables, built by calls or not.
 -- Assumes nothing.
-use Rattle.std.specs.Prelude.{ℕ, zero, suc, ◌+◌, ◌-◌, ◌*◌, ◌/◌, ◌%◌, ◌^◌, ◌≤◌, Bool, true, false, cond, ◌&&◌, List, [], ◌∷◌, map, ◌≡◌, eqb, ltb, ℤ, pos, negsuc, length, get_or, set, drop}
+use Rattle.std.specs.Prelude.{ℕ, zero, suc, ◌+◌, ◌-◌, ◌*◌, ◌/◌, ◌%◌, ◌^◌, ◌≤◌, Bool, true, false, cond, ◌&&◌, List, [], ◌∷◌, map, ◌≡◌, eqb, ltb, ℤ, pos, negsuc, length, get_or, set, drop, Result, Ok, Err, Option, Some, None}
+use Rattle.std.proofs.Props.{props}
 use Rattle.std.specs.Int.Count.{count_leading_zeros}
 use Rattle.arith.specs.Bits.{has_bit, with_bit}
 use Rattle.trie.specs.declared.ParentRef.{ParentRef}
 use Rattle.trie.specs.declared.ParentRef.TheVariants.{Root, RootEntry, Slot}
-use Rattle.trie.specs.declared.Got.{Got}
-use Rattle.trie.specs.declared.Got.TheVariants.{Held, Absent}
 use Rattle.trie.specs.declared.Probe.{Probe}
-use Rattle.trie.specs.declared.Probe.TheVariants.{Found, Empty, Endless}
-use Rattle.trie.specs.declared.Step.{Step}
-use Rattle.trie.specs.declared.Step.TheVariants.{At, Nothing, Damaged}
-use Rattle.trie.specs.declared.WordNumber.{WordNumber}
-use Rattle.trie.specs.declared.WordNumber.TheVariants.{NoWord, Record, Bad}
+use Rattle.trie.specs.declared.Probe.TheVariants.{Found, Empty}
+use Rattle.trie.specs.declared.Damaged.{Damaged}
+
+-- ---- what calls answer
+
+-- tables that no calls have left so
+abbrev pub damage : Damaged
+damage = record {}
+
+-- what a word number says, and what a lookup finds: the word's record, or no word
+abbrev pub WordNumber : Type 0
+WordNumber = Result (Option ℕ) Damaged
+
+-- where a step leads: to a place, or nowhere
+abbrev pub Step : Type 0
+Step = Result (Option ParentRef) Damaged
 
 -- ---- the tables
 
@@ -72,9 +82,9 @@ trie_of roots slots = record {
 
 -- "a word number other than -1 and 0 to the records used less 1" is damage
 unfoldable pub word_number : ℕ → ℤ → WordNumber
-word_number used (pos n) = cond (ltb n used) (Record n) Bad
-word_number used (negsuc zero) = NoWord
-word_number used (negsuc (suc n)) = Bad
+word_number used (pos n) = cond (ltb n used) (Ok (Some n)) (Err damage)
+word_number used (negsuc zero) = Ok None
+word_number used (negsuc (suc n)) = Err damage
 
 -- ---- keys and slots
 
@@ -89,6 +99,11 @@ log2 n = 63 - count_leading_zeros 64 n
 -- a power of two, from 2^4 to 2^22: the numbers of slots that 01 allows
 unfoldable pub SlotCount : ℕ → Type 0
 SlotCount n = (n ≡ 2 ^ log2 n) × (4 ≤ log2 n) × (log2 n ≤ 22)
+
+-- that it is one holds in one way only, as a ghost field asks
+pub slot_count_once : (n : ℕ) → IsProp (SlotCount n)
+unfolding SlotCount
+slot_count_once n = hlevel props
 
 -- so many numbers are the slots of a table, two for each, and the shift is the exponent of "divided by 2^(64 - log2 slots)"
 pub record SlotTable (numbers shift : ℕ) : Type 0 where
@@ -105,16 +120,16 @@ unfoldable pub next_slot : ℕ → ℕ → ℕ
 next_slot slots i = cond (eqb (i + 1) slots) 0 (i + 1)
 
 -- "to the key or an empty slot": of at most n slots from i on the first whose low 48 bits are the key, or whose key is 0
-unfoldable pub probe_from : ℕ → List ℕ → ℕ → ℕ → Probe
-probe_from zero keys key i = Endless
+unfoldable pub probe_from : ℕ → List ℕ → ℕ → ℕ → Result Probe Damaged
+probe_from zero keys key i = Err damage
 probe_from (suc n) keys key i =
     elim (eqb (get_or keys i 0 % 2 ^ 48) key) [
-      | true ↦ Found i
-      | false ↦ elim (eqb (get_or keys i 0) 0) [ true ↦ Empty i | false ↦ probe_from n keys key (next_slot (length keys) i) ]
+      | true ↦ Ok (Found i)
+      | false ↦ elim (eqb (get_or keys i 0) 0) [ true ↦ Ok (Empty i) | false ↦ probe_from n keys key (next_slot (length keys) i) ]
     ]
 
 -- a probe goes through all slots at most
-unfoldable pub probe_of : List ℕ → ℕ → Probe
+unfoldable pub probe_of : List ℕ → ℕ → Result Probe Damaged
 probe_of keys key = probe_from (length keys) keys key (start_slot (length keys) key)
 
 -- ---- filter bits
@@ -146,12 +161,12 @@ from_root t (Slot i) ch = false
 
 -- "A root entry with child 0 .. empty"
 abbrev pub root_step : CharTrie → ℕ → Step
-root_step t ch = cond (eqb (get_or t.root_children ch 0) 0) Nothing (At (RootEntry ch))
+root_step t ch = cond (eqb (get_or t.root_children ch 0) 0) (Ok None) (Ok (Some (RootEntry ch)))
 
-abbrev pub step_by_probe : Probe → Step
-step_by_probe (Found i) = At (Slot i)
-step_by_probe (Empty i) = Nothing
-step_by_probe Endless = Damaged
+abbrev pub step_by_probe : Result Probe Damaged → Step
+step_by_probe (Ok (Found i)) = Ok (Some (Slot i))
+step_by_probe (Ok (Empty i)) = Ok None
+step_by_probe (Err d) = Err d
 
 abbrev pub slot_step : CharTrie → ParentRef → ℕ → Step
 slot_step t p ch = step_by_probe (probe_of t.keys (key_of (node_at t p) ch))
@@ -168,34 +183,29 @@ bits_at t (Slot i) ch = has_bit (get_or t.keys i 0) (key_bit ch) && has_bit (get
 
 -- "In lookups and cuts a step whose bit is missing finds nothing."
 unfoldable pub tested_step : CharTrie → ParentRef → ℕ → Step
-tested_step t p ch = elim (bits_at t p ch) [ true ↦ open_step t p ch | false ↦ Nothing ]
+tested_step t p ch = elim (bits_at t p ch) [ true ↦ open_step t p ch | false ↦ Ok None ]
 
 -- the same from what a walk has read of the place: the key of its slot, or all ones for a root entry, and its child
 unfoldable pub step_from : List ℕ → ℕ → ℕ → ℕ → Step
 step_from keys filter child ch =
-    elim (has_bit filter (key_bit ch) && has_bit child (child_bit ch)) [ true ↦ step_by_probe (probe_of keys (key_of (child % 2 ^ 24) ch)) | false ↦ Nothing ]
+    elim (has_bit filter (key_bit ch) && has_bit child (child_bit ch)) [ true ↦ step_by_probe (probe_of keys (key_of (child % 2 ^ 24) ch)) | false ↦ Ok None ]
 
 -- ---- a word's steps
 
 -- where the steps of a word lead from a place
 unfoldable pub walk : CharTrie → ParentRef → List ℕ → Step
-walk t p [] = At p
-walk t p (c ∷ cs) = elim (tested_step t p c) [ At q ↦ walk t q cs | Nothing ↦ Nothing | Damaged ↦ Damaged ]
+walk t p [] = Ok (Some p)
+walk t p (c ∷ cs) = elim (tested_step t p c) [ Ok (Some q) ↦ walk t q cs | Ok None ↦ Ok None | Err d ↦ Err d ]
 
 -- the word number at a place; the root has none
 unfoldable pub word_at : ℕ → CharTrie → ParentRef → WordNumber
-word_at used t Root = NoWord
+word_at used t Root = Ok None
 word_at used t (RootEntry i) = word_number used (get_or t.root_words i no_word)
 word_at used t (Slot i) = word_number used (get_or t.words i no_word)
 
--- what a lookup finds
-abbrev pub got_by_word : WordNumber → Got
-got_by_word NoWord = Absent
-got_by_word (Record n) = Held n
-got_by_word Bad = Got.Damaged
-
-unfoldable pub get_of : ℕ → CharTrie → List ℕ → Got
-get_of used t cs = elim (walk t Root cs) [ At p ↦ got_by_word (word_at used t p) | Nothing ↦ Absent | Damaged ↦ Got.Damaged ]
+-- what a lookup finds: what the word number says where the steps lead
+unfoldable pub get_of : ℕ → CharTrie → List ℕ → WordNumber
+get_of used t cs = elim (walk t Root cs) [ Ok (Some p) ↦ word_at used t p | Ok None ↦ Ok None | Err d ↦ Err d ]
 
 -- ---- insertion: how far the word's steps are there
 
@@ -206,7 +216,7 @@ pub data Reach : Type 0 where
 
 unfoldable pub reach : CharTrie → ParentRef → List ℕ → Reach
 reach t p [] = Reached p []
-reach t p (c ∷ cs) = elim (open_step t p c) [ At q ↦ reach t q cs | Nothing ↦ Reached p (c ∷ cs) | Damaged ↦ NoEnd ]
+reach t p (c ∷ cs) = elim (open_step t p c) [ Ok (Some q) ↦ reach t q cs | Ok None ↦ Reached p (c ∷ cs) | Err d ↦ NoEnd ]
 
 -- "from its first absent step on every step is new": the slots that it takes, and the nodes
 unfoldable pub new_slots : CharTrie → ParentRef → List ℕ → ℕ
@@ -274,11 +284,11 @@ new_slot t i key node = record {
 }
 
 -- "and, among slots, the first empty one from its start"
-unfoldable pub empty_from : ℕ → List ℕ → ℕ → Probe
-empty_from zero keys i = Endless
-empty_from (suc n) keys i = elim (eqb (get_or keys i 0) 0) [ true ↦ Empty i | false ↦ empty_from n keys (next_slot (length keys) i) ]
+unfoldable pub empty_from : ℕ → List ℕ → ℕ → Result ℕ Damaged
+empty_from zero keys i = Err damage
+empty_from (suc n) keys i = elim (eqb (get_or keys i 0) 0) [ true ↦ Ok i | false ↦ empty_from n keys (next_slot (length keys) i) ]
 
-unfoldable pub empty_slot : List ℕ → ℕ → Probe
+unfoldable pub empty_slot : List ℕ → ℕ → Result ℕ Damaged
 empty_slot keys key = empty_from (length keys) keys (start_slot (length keys) key)
 
 -- new steps for all of these characters, the first of them from a place that is there; the number is the record's
@@ -288,9 +298,8 @@ extend t p (c ∷ cs) node number =
     elim (from_root t p c) [
       | true ↦ extend (new_root_entry t c node) (RootEntry c) cs (node + 1) number
       | false ↦ elim (empty_slot t.keys (key_of (node_at t p) c)) [
-        | Found i ↦ t
-        | Empty i ↦ extend (new_slot (with_bits t p c) i (key_of (node_at t p) c) node) (Slot i) cs (node + 1) number
-        | Endless ↦ t
+        | Ok i ↦ extend (new_slot (with_bits t p c) i (key_of (node_at t p) c) node) (Slot i) cs (node + 1) number
+        | Err d ↦ t
       ]
     ]
 
@@ -298,4 +307,4 @@ extend t p (c ∷ cs) node number =
 unfoldable pub insert : CharTrie → ParentRef → List ℕ → ℕ → ℤ → CharTrie
 insert t p [] node number = with_word t p number
 insert t p (c ∷ cs) node number =
-    elim (open_step t p c) [ At q ↦ insert (with_bits t p c) q cs node number | Nothing ↦ extend t p (c ∷ cs) node number | Damaged ↦ t ]
+    elim (open_step t p c) [ Ok (Some q) ↦ insert (with_bits t p c) q cs node number | Ok None ↦ extend t p (c ∷ cs) node number | Err d ↦ t ]

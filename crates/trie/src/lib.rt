@@ -14,7 +14,8 @@
 
 ghost use Rattle.std.specs.Prelude.{◌≡◌, ◌+◌, ◌-◌, ◌/◌, ◌^◌, ◌<◌, pos, length, get_or, set};
 ghost use Rattle.arith.specs.Bits.{with_bit};
-ghost use Rattle.trie.specs.Trie.{no_word, word_number, child_of, word_of, keys_of, links_of, key_of, log2, SlotCount, key_bit, child_bit};
+ghost use Rattle.std.proofs.Props.{props};
+ghost use Rattle.trie.specs.Trie.{slot_count_once, no_word, word_number, child_of, word_of, keys_of, links_of, key_of, log2, SlotCount, SlotTable, key_bit, child_bit};
 ghost use Rattle.trie.specs.SlotCounts.{slot_count};
 
 // A slot's key is parent × 2^21 + character + 1 in its low 48 bits, and has the first child filter in its high 16 bits.
@@ -28,6 +29,21 @@ const ID_BITS: u32 = 24;
 // 2^24: a child's node is what is below it.
 pub const NODES: u32 = 0x100_0000;
 
+// The slots, two numbers each, and the shift that goes with how many they are.
+#[derive(Clone, Copy)]
+pub struct Slots<'a> {
+    pub numbers: &'a [u64],
+    pub shift: u32,
+    ghost table: { SlotTable (length numbers.now) shift } by { Prim.hlevel (slot_count_once, props) },
+}
+
+// The tables as they are lent to what only reads them.
+#[derive(Clone, Copy)]
+pub struct Tables<'r, 's> {
+    pub roots: &'r [u64],
+    pub slots: Slots<'s>,
+}
+
 // Where a node's child pointer is stored.
 #[derive(Clone, Copy)]
 pub enum ParentRef {
@@ -37,41 +53,15 @@ pub enum ParentRef {
     Slot(usize),
 }
 
-// Where a probe ends: at the key, at an empty slot, or not at all.
+// The error of tables that no calls have left so: a probe without an end, or a word number that names no record.
+#[derive(Clone, Copy, Debug, PartialEq, Eq)]
+pub struct Damaged;
+
+// Where a probe ends: at the key or at an empty slot.
 #[derive(Clone, Copy)]
 pub enum Probe {
     Found(usize),
     Empty(usize),
-    Endless,
-}
-
-// What a stored word number says.
-#[derive(Clone, Copy)]
-pub enum WordNumber {
-    // -1: no word ends here.
-    NoWord,
-    // The record of the word that ends here.
-    Record(usize),
-    // Neither: the book is damaged.
-    Bad,
-}
-
-// Where a step leads.
-#[derive(Clone, Copy)]
-pub enum Step {
-    At(ParentRef),
-    Nothing,
-    // A probe without an end: the book is damaged.
-    Damaged,
-}
-
-// What a lookup finds.
-#[derive(Clone, Copy)]
-pub enum Got {
-    // The word's record.
-    Held(usize),
-    Absent,
-    Damaged,
 }
 
 // Which bits a character sets in a node's two child filters: one of 16 in the slot's key, one of 8 in its child.
@@ -85,7 +75,7 @@ pub fn key(parent: u32, ch: u32) -> u64
     requires { (parent < 2 ^ 24) × (ch < 2 ^ 21) }
     ensures { result ≡ key_of parent ch }
 {
-    (parent as u64) * CHARS + (ch as u64) + 1
+    u64::from(parent) * CHARS + u64::from(ch) + 1
 }
 
 // The Rust gives the two masks. A lookup probes only where both bits are set, which rejects most characters that are not
@@ -140,19 +130,20 @@ pub fn child_of(link: u64) -> u32
     (link % HALF) as u32
 }
 
-// What the word number of a link says, where the records from 0 on to the number used are in use.
-pub fn word_number(link: u64, used: usize) -> WordNumber
+// The record that a link's word number names, or that no word ends there, where the records from 0 on to the number used are in
+// use.
+pub fn word_number(link: u64, used: usize) -> Result<Option<usize>, Damaged>
     ensures { result ≡ word_number used (word_of link) }
 {
     let number = link / HALF;
     if number == NO_WORD {
-        return WordNumber::NoWord;
+        return Ok(None);
     }
     let n = number as usize;
     if used < n {
-        return WordNumber::Bad;
+        return Err(Damaged);
     }
-    WordNumber::Record(n - 1)
+    Ok(Some(n - 1))
 }
 
 // A link whose child has gained a bit.
@@ -160,7 +151,7 @@ pub fn with_child_bit(link: u64, bit: u32) -> u64
     requires { bit < 32 }
     ensures { (child_of result ≡ with_bit (child_of link) bit) × (word_of result ≡ word_of link) }
 {
-    arith::set_bit_u64(link, bit)
+    arith::set_bit(link, bit)
 }
 
 // A link with another word number.
@@ -168,15 +159,17 @@ pub fn with_word(link: u64, number: u32) -> u64
     requires { number + 1 < 2 ^ 32 }
     ensures { (child_of result ≡ child_of link) × (word_of result ≡ pos number) }
 {
-    (number as u64 + 1) * HALF + link % HALF
+    (u64::from(number) + 1) * HALF + link % HALF
 }
 
 // The link of a new node, at which no word ends.
 pub fn new_link(node: u32) -> u64
     ensures { (child_of result ≡ node) × (word_of result ≡ no_word) }
 {
-    NO_WORD * HALF + node as u64
+    NO_WORD * HALF + u64::from(node)
 }
+
+// Kept: key and link by functions of their own: they are told by two definitions, so that one function would have a case for each.
 
 // The key of slot i, with its filter: the first of the slot's two numbers.
 pub fn key_at(slots: &[u64], i: usize) -> u64

@@ -1,6 +1,7 @@
 -- Cuts of one sentence by two vocabularies. A cut takes the words of a vocabulary only at the positions of the sentence's blocks, and of what follows a
 -- position only up to the block's end. So where the two agree on these, and on the total, every cut is the same: by congruence, block by block.
 -- Assumes nothing.
+use Rattle.std.specs.Prelude.{Err}
 use mathlib.Core.Path.{◌≡◌, refl, ap, ◌∙◌}
 use mathlib.Core.Bool.{Bool, true, false, cond, ◌&&◌, beq}
 use mathlib.Core.List.{List, [], ◌∷◌, ◌++◌}
@@ -10,7 +11,7 @@ use borrow.Author.Tests.{leb-true}
 use lib.Dec.{eqb, leb, ltb}
 use lib.ListN.{length}
 use Rattle.utf8.specs.Text.{chars_of}
-use Rattle.book.specs.declared.Outcome.TheVariants.{BadAreas, TooLong, Damaged, WorkTooShort}
+use Rattle.book.specs.declared.Refusal.TheVariants.{BadAreas, TooLong, Damaged, WorkTooShort}
 use Rattle.book.specs.Returns.{longest_text}
 use Rattle.cuts.specs.Blocks.{Block, onto, blocks_of}
 use Rattle.cuts.specs.Edges.{Vocabulary, walks_of}
@@ -138,18 +139,18 @@ pub tests_alike : (t : Tested) (work : ℕ) (area sentence : List ℕ) (cutting 
     → cut_with t work area cutting sentence ≡ cut_with t work area cutting' sentence
 unfolding cut_with
 tests_alike t work area sentence cutting cutting' same =
-    ap (λ (a : CutAnswer). cond (t.sizes && eqb (length area % token_width) 0) a (answer BadAreas (written 0 area)))
+    ap (λ (a : CutAnswer). cond (t.sizes && eqb (length area % token_width) 0) a (answer (Err BadAreas) (written 0 area)))
     (by_length (leb (length sentence) longest_text) refl)
   where
     by_chars : (cs : Option (List ℕ)) → length sentence ≤ longest_text → chars_of sentence ≡ cs
         → cut_chars t work cutting (written 0 area) cs ≡ cut_chars t work cutting' (written 0 area) cs
     by_chars none l e = refl
     by_chars (some cs) l e =
-        ap (λ (a : CutAnswer). cond (ltb work (length cs + 1)) (answer WorkTooShort (written 0 area))
-        (cond t.damage (answer Damaged (written 0 area)) a)) (same cs l e (written 0 area))
+        ap (λ (a : CutAnswer). cond (ltb work (length cs + 1)) (answer (Err WorkTooShort) (written 0 area))
+        (cond t.damage (answer (Err Damaged) (written 0 area)) a)) (same cs l e (written 0 area))
 
     by_length : (z : Bool) → leb (length sentence) longest_text ≡ z
-        → cond z (cut_chars t work cutting (written 0 area) (chars_of sentence)) (answer TooLong (written 0 area))
-        ≡ cond z (cut_chars t work cutting' (written 0 area) (chars_of sentence)) (answer TooLong (written 0 area))
+        → cond z (cut_chars t work cutting (written 0 area) (chars_of sentence)) (answer (Err TooLong) (written 0 area))
+        ≡ cond z (cut_chars t work cutting' (written 0 area) (chars_of sentence)) (answer (Err TooLong) (written 0 area))
     by_length true l = by_chars (chars_of sentence) (leb-true (length sentence) longest_text l) refl
     by_length false l = refl

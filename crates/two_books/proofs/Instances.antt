@@ -2,8 +2,8 @@
 -- Texts are bytes, with what they read above them. The lists ran by `every_list_runs`, a theorem over the definitions of `specs/Runs.antt`, so they
 -- stand beside the proofs: an edit of those definitions is to be refused by a proof. Proofs of the claims: `proofs/Examples.antt`.
 -- Assumes nothing.
-use Rattle.std.specs.Prelude.{ℕ, List, [], ◌∷◌, ◌≡◌, refl, replicate}
-use Rattle.book.specs.declared.Outcome.TheVariants.{Done, BadFrequency, WorkTooShort, EdgesFull, TokensFull}
+use Rattle.std.specs.Prelude.{ℕ, List, [], ◌∷◌, ◌≡◌, refl, replicate, Ok, Err}
+use Rattle.book.specs.declared.Refusal.TheVariants.{BadFrequency, WorkTooShort, EdgesFull, TokensFull}
 use Rattle.std.specs.Int.Count.{count_leading_zeros}
 use Rattle.trie.specs.SlotCounts.{slot_count}
 use Rattle.trie.specs.Trie.{log2}
@@ -89,7 +89,7 @@ lent = areas 4 8 24
 
 -- a cut is done, with so many tokens and these numbers in the token area
 abbrev pub done : ℕ → List ℕ → CutAnswer
-done count numbers = Cuts.answer Done (written count numbers)
+done count numbers = Cuts.answer (Ok tt) (written count numbers)
 
 -- what each cut of the command answers: 客厅灯; 客厅, 客厅灯 and 灯; 客厅 and 客厅灯
 abbrev pub one_word : CutAnswer
@@ -113,7 +113,7 @@ pub record NotVacuous : Type 0 where
   pub stretches : SameStretches (ledger_of one_bridge) (ledger_of other_bridge) command
   pub totals : one_bridge.book.head.total ≡ other_bridge.book.head.total
   pub equal : EqualAreas lent lent
-  pub answers : other_bridge.answers ≡ answer Done 9 ∷ answer Done 3 ∷ answer BadFrequency 0 ∷ answer Done 4 ∷ []
+  pub answers : other_bridge.answers ≡ answer (Ok tt) 9 ∷ answer (Ok tt) 3 ∷ answer (Err BadFrequency) 0 ∷ answer (Ok tt) 4 ∷ []
   pub one_answered : (cutter : Cutter) → Answered cutter one_bridge.book lent command (command_answer cutter)
   pub other_answered : (cutter : Cutter) → Answered cutter other_bridge.book lent command (command_answer cutter)
 
@@ -158,6 +158,6 @@ pub record EachPremiseNeeded : Type 0 where
   pub total_zero_lem : Answered Cut total_of_zero.book (areas 3 8 12) pair two_tokens
   pub total_one_lem : Answered Cut total_of_one.book (areas 3 8 12) pair one_token
   -- in one book: with a work area one shorter, with an edge area of 2, and with a token area of one place
-  pub shorter_work : Answered Cut one_bridge.book (areas 3 8 24) command (Cuts.answer WorkTooShort (written 0 (replicate 24 7)))
-  pub shorter_edges : Answered Cut one_bridge.book (areas 4 2 24) command (Cuts.answer EdgesFull (written 0 (replicate 24 7)))
-  pub shorter_tokens : Answered CutForSearch one_bridge.book (areas 4 8 6) command (Cuts.answer TokensFull (written 1 (0 ∷ 2 ∷ 0 ∷ 6 ∷ 0 ∷ 2 ∷ [])))
+  pub shorter_work : Answered Cut one_bridge.book (areas 3 8 24) command (Cuts.answer (Err WorkTooShort) (written 0 (replicate 24 7)))
+  pub shorter_edges : Answered Cut one_bridge.book (areas 4 2 24) command (Cuts.answer (Err EdgesFull) (written 0 (replicate 24 7)))
+  pub shorter_tokens : Answered CutForSearch one_bridge.book (areas 4 8 6) command (Cuts.answer (Err TokensFull) (written 1 (0 ∷ 2 ∷ 0 ∷ 6 ∷ 0 ∷ 2 ∷ [])))

@@ -1,11 +1,10 @@
 -- Demand 3, as one claim about two whole lists of calls. docs/DEMAND-3.md goes through it clause by clause. Proof: `proofs/Demand3.antt`.
 -- Assumes nothing.
-use Rattle.std.specs.Prelude.{ℕ, suc, ◌+◌, ◌≤◌, cond, List, [], ◌∷◌, ◌++◌, ◌≢◌, ◌≡◌, leb, length, take, drop}
+use Rattle.std.specs.Prelude.{ℕ, suc, ◌+◌, ◌≤◌, cond, List, [], ◌∷◌, ◌++◌, ◌≢◌, ◌≡◌, leb, length, take, drop, Err}
 use Rattle.std.proofs.Math.Option.{Option, none, some}
 use Rattle.utf8.specs.Text.{chars_of}
-use Rattle.book.specs.declared.Outcome.TheVariants.{Damaged}
-use Rattle.book.specs.declared.Found.{Found}
-use Rattle.book.specs.Returns.{Book, longest_text, lookup_of}
+use Rattle.book.specs.declared.Refusal.TheVariants.{Damaged}
+use Rattle.book.specs.Returns.{Book, longest_text, lookup_of, Found}
 use Rattle.built.specs.Ledger.{Entry, frequency_in, sum_of, EachOnce, ledger_lookup}
 use Rattle.built.specs.Calls.{Call, answer_of, book_from, answers_from}
 use Rattle.cuts.specs.Cuts.{CutAnswer}
@@ -60,7 +59,7 @@ AnswersInTurn r =
 -- "The cuts' answers, refusals among them, are the ones that document 01 defines from the held words"; 01: "no cut meets damage there"
 pub record FromHeldWords (ledger : List Entry) (cutter : Cutter) (lent : Areas) (sentence : List ℕ) (a : CutAnswer) : Type 0 where
   pub defined : a ≡ held_answer cutter ledger lent sentence
-  pub undamaged : a.outcome ≢ Damaged
+  pub undamaged : a.outcome ≢ (Err Damaged)
 
 -- ---- what is claimed of the two
 

@@ -8,8 +8,7 @@ ghost use Rattle.cuts.specs.Tokens.{singly, runs_of, Base, written};
 ghost use Rattle.cuts.specs.Cuts.{cut_answer, put_spans};
 ghost use Rattle.unmatched.specs.Joining.{joining_run};
 
-use book::Outcome;
-use cuts::Cut;
+use cuts::CutError;
 
 // The tokens of a block of n characters outside the class of `cut`: each character is one, and CR LF is one.
 pub fn cut_unmatched(
@@ -19,13 +18,14 @@ pub fn cut_unmatched(
     base: u32,
     tokens: &mut [u32],
     count: usize,
-) -> Cut
+) -> Result<usize, CutError>
     requires { (n ≤ length chars.now) × (n < length offsets.now) × (base + n ≤ longest_text) }
     ensures { (place : Base) → Placed place base (take n chars.now) offsets.now
         → cut_answer result tokens.new ≡ put_spans place (take n chars.now) (written count tokens.old) (singly 0 (take n chars.now)) }
 {
     let mut count = count;
     let mut x: usize = 0;
+    // Kept: each turn goes on behind the token, of one character or of CR LF, which no `for` counts.
     while x < n {
         let mut y = x + 1;
         if chars[x] == 0x0D {
@@ -35,18 +35,10 @@ pub fn cut_unmatched(
                 }
             }
         }
-        let put = tokens::emit_span(offsets, base, x, y, tokens, count);
-        let outcome = put.outcome;
-        count = put.count;
-        if !book::is_done(outcome) {
-            return Cut { outcome, count };
-        }
+        count = tokens::emit_span(offsets, base, x, y, tokens, count)?;
         x = y;
     }
-    Cut {
-        outcome: Outcome::Done,
-        count,
-    }
+    Ok(count)
 }
 
 // The end of the run of joining characters that goes on at a position.
@@ -54,14 +46,12 @@ fn joining_end(chars: &[u32], n: usize, from: usize) -> usize
     requires { (from ≤ n) × (n ≤ length chars.now) }
     ensures { joining_run chars.now n from result }
 {
-    let mut y = from;
-    while y < n {
+    for y in from..n {
         if classes::is_skip_cut_all(chars[y]) {
-            break;
+            return y;
         }
-        y += 1;
     }
-    y
+    n
 }
 
 // The tokens of a block of n characters outside the class of `cut_all`: maximal runs of ASCII letters, digits, + # and LF, and
@@ -73,28 +63,21 @@ pub fn cut_all_unmatched(
     base: u32,
     tokens: &mut [u32],
     count: usize,
-) -> Cut
+) -> Result<usize, CutError>
     requires { (n ≤ length chars.now) × (n < length offsets.now) × (base + n ≤ longest_text) }
     ensures { (place : Base) → Placed place base (take n chars.now) offsets.now
         → cut_answer result tokens.new ≡ put_spans place (take n chars.now) (written count tokens.old) (runs_of (take n chars.now)) }
 {
     let mut count = count;
     let mut x: usize = 0;
+    // Kept: each turn goes on behind the token, whose end `joining_end` found, which no `for` counts.
     while x < n {
         let mut y = x + 1;
         if !classes::is_skip_cut_all(chars[x]) {
             y = joining_end(chars, n, y);
         }
-        let put = tokens::emit_span(offsets, base, x, y, tokens, count);
-        let outcome = put.outcome;
-        count = put.count;
-        if !book::is_done(outcome) {
-            return Cut { outcome, count };
-        }
+        count = tokens::emit_span(offsets, base, x, y, tokens, count)?;
         x = y;
     }
-    Cut {
-        outcome: Outcome::Done,
-        count,
-    }
+    Ok(count)
 }

@@ -9,9 +9,8 @@ use Prim.Native.Nat.{ℕ, suc, ◌+◌, ◌-◌, ◌*◌, ◌/◌, ◌%◌, ◌�
 use native.Mathlib.Omega.{arith}
 use lib.ListN.{length, get_or, drop, length-drop}
 use lib.Seq.{drop-cons, get_or-drop}
-use Rattle.utf8.specs.declared.Character.{Character}
-use Rattle.utf8.specs.declared.Character.TheVariants.{Char, Malformed, End}
-use Rattle.utf8.specs.Characters.{read_from, character_at}
+use Rattle.std.specs.Prelude.{Ok, Err, Some, None}
+use Rattle.utf8.specs.Characters.{Read, char, ended, read_from, character_at}
 use Rattle.utf8.specs.Encoding.{Scalar, encode}
 use Rattle.utf8.specs.Text.{chars_from}
 use Rattle.utf8.specs.Utf16.{units_of}
@@ -109,34 +108,37 @@ module _ (b0 : ℕ) (bs : List ℕ) (x : ℕ) where
 
 -- n bytes, six bits after six bits, spell the character at a position, above a part m that is the same for all that take n bytes; and these take u units
 abbrev pub Spells : List ℕ → ℕ → ℕ → ℕ → ℕ → ℕ → Type 0
-Spells s at bytes m n u = (m ≤ bytes) × (character_at s at ≡ Char (bytes - m) n u)
+Spells s at bytes m n u = (m ≤ bytes) × (character_at s at ≡ char (bytes - m) n u)
 
 module _ (s : List ℕ) (at : ℕ) (within : at < length s) (some_chars : IsSome (chars_from s at)) (b0 : ℕ) (e0 : b0 ≡ get_or s at 0) where
   abbrev later : List ℕ
   later = drop (suc at) s
 
   module _ (P : Type 0)
-      (one : b0 < 0x80 → character_at s at ≡ Char b0 1 1 → P)
-      (two : (c : ℕ) → Two b0 later c → character_at s at ≡ Char c 2 1 → P)
-      (three : (c : ℕ) → Three b0 later c → character_at s at ≡ Char c 3 1 → P)
-      (four : (c : ℕ) → Four b0 later c → character_at s at ≡ Char c 4 2 → P) where
+      (one : b0 < 0x80 → character_at s at ≡ char b0 1 1 → P)
+      (two : (c : ℕ) → Two b0 later c → character_at s at ≡ char c 2 1 → P)
+      (three : (c : ℕ) → Three b0 later c → character_at s at ≡ char c 3 1 → P)
+      (four : (c : ℕ) → Four b0 later c → character_at s at ≡ char c 4 2 → P) where
     by_lead : P
     unfolding character_at chars_from
     by_lead = go (character_at s at) refl
       where
-        go : (r : Character) → character_at s at ≡ r → P
-        go (Char c w u) e =
+        go : (r : Read) → character_at s at ≡ r → P
+        go (Ok (Some r)) e =
+            let c : ℕ = r.value in
+            let w : ℕ = r.width in
+            let u : ℕ = r.units in
             let q = reads_only_encodings (drop at s) c w u e in
-            let sized : (n m : ℕ) → length (encode c) ≡ n → units_of c ≡ m → character_at s at ≡ Char c n m =
-            λ n m l k. e ∙ ap (λ (x : ℕ). Char c x u) (sym q.1 ∙ l) ∙ ap (Char c n) (sym q.3 ∙ sym (units_encoded c) ∙ k) in
+            let sized : (n m : ℕ) → length (encode c) ≡ n → units_of c ≡ m → character_at s at ≡ char c n m =
+            λ n m l k. e ∙ ap (λ (x : ℕ). char c x u) (sym q.1 ∙ l) ∙ ap (char c n) (sym q.3 ∙ sym (units_encoded c) ∙ k) in
             by_width P b0 later c (drop w (drop at s)) (q.2 ∙ drop-cons s at 0 within ∙ rw (← e0))
-            (λ l same n. one (omega arith) (sized 1 1 n (one_unit c (omega arith)) ∙ ap (λ (x : ℕ). Char x 1 1) same))
+            (λ l same n. one (omega arith) (sized 1 1 n (one_unit c (omega arith)) ∙ ap (λ (x : ℕ). char x 1 1) same))
             (λ t n. two c t (sized 2 1 n (one_unit c (omega (arith, t.to)))))
             (λ t n. three c t (sized 3 1 n (one_unit c t.to)))
             (λ t n. four c t (sized 4 2 n (two_units c t.from)))
             q.0
-        go Malformed e = absurd (rw (chars_malformed (drop at s) e) at some_chars)
-        go End e = let n : length (drop at s) ≡ 0 = ap length (end_nil (drop at s) e) in absurd (omega (arith, length-drop at s))
+        go (Err x) e = absurd (rw (chars_malformed (drop at s) e) at some_chars)
+        go (Ok None) e = let n : length (drop at s) ≡ 0 = ap length (end_nil (drop at s) e) in absurd (omega (arith, length-drop at s))
 
   -- how many bytes there are
   pub second_within : 0x80 ≤ b0 → at + 1 < length s
@@ -163,12 +165,12 @@ module _ (s : List ℕ) (at : ℕ) (within : at < length s) (some_chars : IsSome
       (λ c t e. absurd (omega (arith, t.lead, t.to)))
       (λ c t e. omega (arith, t.room, length-drop (suc at) s))
 
-  spells : (bytes m n u c : ℕ) → bytes ≡ c + m → character_at s at ≡ Char c n u → Spells s at bytes m n u
-  spells bytes m n u c e read = let v : c ≡ bytes - m = omega arith in (omega arith, read ∙ ap (λ (x : ℕ). Char x n u) v)
+  spells : (bytes m n u c : ℕ) → bytes ≡ c + m → character_at s at ≡ char c n u → Spells s at bytes m n u
+  spells bytes m n u c e read = let v : c ≡ bytes - m = omega arith in (omega arith, read ∙ ap (λ (x : ℕ). char x n u) v)
 
-  pub next_1 : b0 < 0x80 → character_at s at ≡ Char b0 1 1
+  pub next_1 : b0 < 0x80 → character_at s at ≡ char b0 1 1
   next_1 h =
-      by_lead (character_at s at ≡ Char b0 1 1)
+      by_lead (character_at s at ≡ char b0 1 1)
       (λ l e. e)
       (λ c t e. absurd (omega (arith, t.lead)))
       (λ c t e. absurd (omega (arith, t.lead)))
@@ -211,6 +213,6 @@ module _ (s : List ℕ) (at : ℕ) (within : at < length s) (some_chars : IsSome
               byte 2 (at + 3) b3 (omega arith) e3,
             )) e)
 
-pub at_end : (s : List ℕ) (at : ℕ) → length s ≤ at → End ≡ character_at s at
+pub at_end : (s : List ℕ) (at : ℕ) → length s ≤ at → ended ≡ character_at s at
 unfolding character_at read_from
 at_end s at h = rw (lib.ListN.drop_of_length-le s h)

@@ -10,11 +10,10 @@ use mathlib.Core.List.{List, [], ◌∷◌, ◌++◌}
 use Prim.Native.Nat.{ℕ, ◌+◌, ◌*◌, ◌/◌, ◌%◌, ◌≤◌, ◌<◌}
 use native.Mathlib.Omega.{arith}
 use lib.Dec.{T, ltb, leb}
+use Rattle.std.specs.Prelude.{Ok, Err, Some, None}
 use lib.ListN.{length, take, drop}
 use borrow.Author.Tests.{lt-ltb, le-ltb, le-leb, lt-leb, ltb-true, ltb-false}
-use Rattle.utf8.specs.declared.Character.{Character}
-use Rattle.utf8.specs.declared.Character.TheVariants.{Char}
-use Rattle.utf8.specs.Characters.{Octets, octets, tail, sequences, starts_with, character_number, character, read_by, read_from}
+use Rattle.utf8.specs.Characters.{Read, char, Octets, octets, tail, sequences, starts_with, character_number, character, read_by, read_from}
 use Rattle.utf8.specs.Encoding.{Scalar, encode}
 use Rattle.utf8.specs.Utf16.{units_of}
 use Rattle.utf8.specs.Claims.{ReadsEncodings, ReadsOnlyEncodings}
@@ -206,21 +205,27 @@ all_sound = (
   ),
 )
 
+-- two characters that are the same, part for part
+pub same_char : {c w u d x v : ℕ} → char c w u ≡ char d x v → (c ≡ d) × (w ≡ x) × (u ≡ v)
+same_char e = (
+  ap (λ (r : Read). elim r [ Ok (Some q) ↦ q.value | Ok None ↦ 0 | Err y ↦ 0 ]) e,
+  ap (λ (r : Read). elim r [ Ok (Some q) ↦ q.width | Ok None ↦ 0 | Err y ↦ 0 ]) e,
+  ap (λ (r : Read). elim r [ Ok (Some q) ↦ q.units | Ok None ↦ 0 | Err y ↦ 0 ]) e,
+)
+
 -- so whatever is read by them is an encoding, with the units of the number that it spells
 abbrev EncodesIn : List ℕ → ℕ → ℕ → ℕ → Type 0
 EncodesIn bs c w u = Encodes bs c w × (units_of c ≡ u)
 
-sound_at : (s : List Octets) (bs : List ℕ) (c w u : ℕ) (other : Character) (t : Bool) → starts_with s bs ≡ t → Sound s
-    → (other ≡ Char c w u → EncodesIn bs c w u)
-    → cond t (character (character_number (take (length s) bs)) (length s)) other ≡ Char c w u → EncodesIn bs c w u
+sound_at : (s : List Octets) (bs : List ℕ) (c w u : ℕ) (other : Read) (t : Bool) → starts_with s bs ≡ t → Sound s
+    → (other ≡ char c w u → EncodesIn bs c w u)
+    → cond t (character (character_number (take (length s) bs)) (length s)) other ≡ char c w u → EncodesIn bs c w u
 sound_at s bs c w u other true p ok next e =
-    let ec : character_number (take (length s) bs) ≡ c = cc in
-    let ew : length s ≡ w = cc in
-    let eu : units_of (character_number (take (length s) bs)) ≡ u = cc in
-    (rw (← ec, ← ew) (ok bs (rw p tt)), ap units_of (sym ec) ∙ eu)
+    let same = same_char e in
+    (rw (← same.0, ← same.1) (ok bs (rw p tt)), ap units_of (sym same.0) ∙ same.2)
 sound_at s bs c w u other false p ok next e = next e
 
-sound_by : (rows : List (List Octets)) → AllSound rows → (bs : List ℕ) (c w u : ℕ) → read_by rows bs ≡ Char c w u → EncodesIn bs c w u
+sound_by : (rows : List (List Octets)) → AllSound rows → (bs : List ℕ) (c w u : ℕ) → read_by rows bs ≡ char c w u → EncodesIn bs c w u
 sound_by [] ok bs c w u e = let z : ◌≡◌ {A = ℕ} 0 1 = cc in absurd (omega arith)
 sound_by (s ∷ rest) ok bs c w u e = sound_at s bs c w u (read_by rest bs) (starts_with s bs) refl ok.0 (sound_by rest ok.1 bs c w u) e
 
@@ -364,4 +369,4 @@ encoded c rest (inl s) (inr x) (inr y) (inr z) = absurd (omega arith)
 encoded c rest (inr s) (inr x) (inr y) (inr z) = rw (encode_4 c z) (reads_4 c _ _ _ _ rest z s.1 refl refl refl refl (below c 0x40000) (below c 0x100000))
 
 pub reads_encodings : ReadsEncodings
-reads_encodings c rest s = encoded c rest s (below c 0x80) (below c 0x800) (below c 0x10000) ∙ ap (Char c (length (encode c))) (units_encoded c)
+reads_encodings c rest s = encoded c rest s (below c 0x80) (below c 0x800) (below c 0x10000) ∙ ap (char c (length (encode c))) (units_encoded c)

@@ -9,10 +9,9 @@ use native.Mathlib.Nat.{add-zero}
 use native.Mathlib.Omega.{arith}
 use lib.ListN.{length, take, drop, length-append, length-drop, drop_of_length-le}
 use lib.Seq.{drop-drop, take-append_seam, drop-append_seam}
-use Rattle.utf8.specs.declared.Character.TheVariants.{Char, Malformed, End}
-use Rattle.utf8.specs.declared.CharCount.{CharCount}
-use Rattle.utf8.specs.declared.CharCount.TheVariants.{Chars}
-use Rattle.utf8.specs.Characters.{read_from, character_at}
+use Rattle.std.specs.Prelude.{Result, Ok, Err}
+use Rattle.utf8.specs.declared.Malformed.{Malformed}
+use Rattle.utf8.specs.Characters.{char, malformed, ended, read_from, character_at}
 use Rattle.utf8.specs.Text.{before, chars_of, chars_from, count_of}
 use Rattle.utf8.specs.Encoding.{Scalars, encode, encode_text, byte_length}
 use Rattle.utf8.specs.Utf16.{units_of, unit_length}
@@ -29,11 +28,11 @@ no_more_units_of c =
     (below c 0x10000)
 
 module _ (s : List ℕ) (at : ℕ) where
-  pub from_char : (c w u : ℕ) → character_at s at ≡ Char c w u → chars_from s at ≡ before c (chars_from s (at + w))
+  pub from_char : (c w u : ℕ) → character_at s at ≡ char c w u → chars_from s at ≡ before c (chars_from s (at + w))
   unfolding character_at chars_from
   from_char c w u e = chars_char (drop at s) c w u e ∙ ap (λ (x : List ℕ). before c (chars_of x)) (drop-drop w at s)
 
-  pub from_malformed : character_at s at ≡ Malformed → chars_from s at ≡ none
+  pub from_malformed : character_at s at ≡ malformed → chars_from s at ≡ none
   unfolding character_at chars_from
   from_malformed e = chars_malformed (drop at s) e
 
@@ -42,7 +41,7 @@ module _ (s : List ℕ) (at : ℕ) where
   from_end h = rw (drop_of_length-le s h) (chars_end [] refl)
 
   -- a character has one to four bytes, within the text
-  pub inside : (c w u : ℕ) → character_at s at ≡ Char c w u → (1 ≤ w) × (w ≤ 4) × (at + w ≤ length s)
+  pub inside : (c w u : ℕ) → character_at s at ≡ char c w u → (1 ≤ w) × (w ≤ 4) × (at + w ≤ length s)
   unfolding character_at
   inside c w u e =
       let p = width (drop at s) c w u e in
@@ -50,26 +49,26 @@ module _ (s : List ℕ) (at : ℕ) where
       (p.0.0, p.0.1, omega arith)
 
   -- as many as its encoding
-  pub width_of : (c w u : ℕ) → character_at s at ≡ Char c w u → length (encode c) ≡ w
+  pub width_of : (c w u : ℕ) → character_at s at ≡ char c w u → length (encode c) ≡ w
   unfolding character_at
   width_of c w u e = (reads_only_encodings (drop at s) c w u e).1
 
   -- and as many units as its encoding in UTF-16
-  pub units_of_lem : (c w u : ℕ) → character_at s at ≡ Char c w u → units_of c ≡ u
+  pub units_of_lem : (c w u : ℕ) → character_at s at ≡ char c w u → units_of c ≡ u
   unfolding character_at
   units_of_lem c w u e = units_encoded c ∙ (reads_only_encodings (drop at s) c w u e).3
 
   -- which are no more than its bytes
-  pub units_within : (c w u : ℕ) → character_at s at ≡ Char c w u → u ≤ w
+  pub units_within : (c w u : ℕ) → character_at s at ≡ char c w u → u ≤ w
   units_within c w u e = omega (arith, no_more_units_of c, units_of_lem c w u e, width_of c w u e)
 
   -- a scalar value has 21 bits
-  pub value_below : (c w u : ℕ) → character_at s at ≡ Char c w u → c < 2 ^ 21
+  pub value_below : (c w u : ℕ) → character_at s at ≡ char c w u → c < 2 ^ 21
   unfolding character_at
   value_below c w u e = ⊎_elim (λ low. omega arith) (λ high. omega arith) (reads_only_encodings (drop at s) c w u e).0
 
   -- the end is not met within the text
-  pub not_within : character_at s at ≡ End → length s ≤ at
+  pub not_within : character_at s at ≡ ended → length s ≤ at
   unfolding character_at
   not_within e =
       let l : length (drop at s) ≡ length s - at = length-drop at s in
@@ -77,7 +76,7 @@ module _ (s : List ℕ) (at : ℕ) where
       omega arith
 
   -- where the text is well formed from here on, it is after the character that is read here
-  pub still_chars : IsSome (chars_from s at) → (c w u : ℕ) → character_at s at ≡ Char c w u → IsSome (chars_from s (at + w))
+  pub still_chars : IsSome (chars_from s at) → (c w u : ℕ) → character_at s at ≡ char c w u → IsSome (chars_from s (at + w))
   still_chars some_chars c w u e = later (chars_from s (at + w)) (rw (from_char c w u e) at some_chars)
     where
       later : (rest : Option (List ℕ)) → IsSome (before c rest) → IsSome rest
@@ -162,27 +161,27 @@ none_left s at e =
     omega arith
 
 -- ---- counting: n characters are passed, and the rest is still to be counted
-abbrev pub count_on : ℕ → Option (List ℕ) → CharCount
-count_on n none = CharCount.Malformed
-count_on n (some cs) = Chars (n + length cs)
+abbrev pub count_on : ℕ → Option (List ℕ) → Result ℕ Malformed
+count_on n none = Err (record {})
+count_on n (some cs) = Ok (n + length cs)
 
 count_none : (cs : Option (List ℕ)) → count_on 0 cs ≡ count_of cs
 count_none none = refl
-count_none (some cs) = ap Chars (omega arith)
+count_none (some cs) = ap Ok (omega arith)
 
 pub count_start : (s : List ℕ) → count_on 0 (chars_from s 0) ≡ count_of (chars_of s)
 count_start s = ap (count_on 0) (from_start s) ∙ count_none (chars_of s)
 
 count_more : (n c : ℕ) (cs : Option (List ℕ)) → count_on (n + 1) cs ≡ count_on n (before c cs)
 count_more n c none = refl
-count_more n c (some cs) = ap Chars (omega arith)
+count_more n c (some cs) = ap Ok (omega arith)
 
-module _ (s : List ℕ) (at n : ℕ) (r : CharCount) (same : count_on n (chars_from s at) ≡ r) where
-  pub count_char : (c w u : ℕ) → character_at s at ≡ Char c w u → count_on (n + 1) (chars_from s (at + w)) ≡ r
+module _ (s : List ℕ) (at n : ℕ) (r : Result ℕ Malformed) (same : count_on n (chars_from s at) ≡ r) where
+  pub count_char : (c w u : ℕ) → character_at s at ≡ char c w u → count_on (n + 1) (chars_from s (at + w)) ≡ r
   count_char c w u e = count_more n c (chars_from s (at + w)) ∙ ap (count_on n) (sym (from_char s at c w u e)) ∙ same
 
-  pub count_malformed : character_at s at ≡ Malformed → CharCount.Malformed ≡ r
+  pub count_malformed : character_at s at ≡ malformed → Err (record {}) ≡ r
   count_malformed e = ap (count_on n) (sym (from_malformed s at e)) ∙ same
 
-  pub count_end : length s ≤ at → Chars n ≡ r
-  count_end h = ap Chars (sym (add-zero n)) ∙ ap (count_on n) (sym (from_end s at h)) ∙ same
+  pub count_end : length s ≤ at → Ok n ≡ r
+  count_end h = ap Ok (sym (add-zero n)) ∙ ap (count_on n) (sym (from_end s at h)) ∙ same

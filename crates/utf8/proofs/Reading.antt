@@ -6,16 +6,16 @@ use mathlib.Core.Path.{◌≡◌, refl, sym, ap, ◌∙◌}
 use mathlib.Core.Bool.{Bool, true, false, cond, ◌&&◌, ◌||◌, and-true, and-false, and_assoc, and-or_distrib_right}
 use mathlib.Core.List.{List, [], ◌∷◌, ◌++◌, map}
 use mathlib.Core.Logic.{◌⊎◌, inl, inr}
-use Prim.Native.Nat.{ℕ, suc, ◌+◌, ◌-◌, ◌*◌, ◌/◌, ◌%◌, ◌≤◌, ◌<◌}
+use Prim.Native.Nat.{ℕ, suc, ◌+◌, ◌-◌, ◌*◌, ◌%◌, ◌≤◌, ◌<◌}
 use native.Mathlib.Omega.{arith}
 use native.Mathlib.Numerals.{add-one, add-two, add-three, add-four}
 use borrow.Author.Tests.{le-leb}
 use lib.Dec.{T, leb}
 use lib.ListN.{length, get_or, take, drop, get_or-eq_default}
 use lib.Seq.{drop-cons, get_or-drop}
-use Rattle.utf8.specs.declared.Character.{Character}
-use Rattle.utf8.specs.declared.Character.TheVariants.{Char, Malformed}
-use Rattle.utf8.specs.Characters.{Octets, tail, sequences, starts_with, character_number, character, read_by, read_from, character_at}
+use Rattle.std.specs.Prelude.{Result, Ok, Err}
+use Rattle.utf8.specs.declared.Malformed.{Malformed}
+use Rattle.utf8.specs.Characters.{Read, char, malformed, Octets, tail, sequences, starts_with, character_number, character, read_by, read_from, character_at}
 use Rattle.utf8.specs.Utf16.{units_of}
 use Rattle.utf8.specs.Rows.{inside, any_row, of_length, begins_row, tail_of}
 use Rattle.utf8.proofs.Utf16.{one_unit, two_units}
@@ -56,7 +56,7 @@ module _ (tails : List Octets) where
   too_short (p ∷ ps) b0 = rw (and-false (inside p.0 b0)) (too_short ps b0)
 
   -- the row that fits is not told from the others
-  either : (x y : Bool) (c other : Character) → cond x c (cond y c other) ≡ cond (x || y) c other
+  either : (x y : Bool) (c other : Read) → cond x c (cond y c other) ≡ cond (x || y) c other
   either true y c other = refl
   either false y c other = refl
 
@@ -71,25 +71,25 @@ module _ (tails : List Octets) where
 
   module _ (pre post : List (List Octets)) (ps : List (Octets × Octets)) (low high : ℕ) (table : sequences ≡ pre ++ (map row ps ++ post))
       (below : T (leads_below pre low)) (above : T (leads_from post high)) (b0 : ℕ) (l : low ≤ b0) (h : b0 < high) where
-    by_length : (bs : List ℕ) → read_from (b0 ∷ bs) ≡ cond (any_row (map row ps) (b0 ∷ bs)) (character (character_number (take width (b0 ∷ bs))) width) Malformed
+    by_length : (bs : List ℕ) → read_from (b0 ∷ bs) ≡ cond (any_row (map row ps) (b0 ∷ bs)) (character (character_number (take width (b0 ∷ bs))) width) malformed
     unfolding read_from
     by_length bs =
         ap (λ (rows : List (List Octets)). read_by rows (b0 ∷ bs)) table
         ∙ passed pre (map row ps ++ post) low b0 bs below l
         ∙ by_any ps post (b0 ∷ bs)
-        ∙ ap (λ (c : Character). cond (any_row (map row ps) (b0 ∷ bs)) (character (character_number (take width (b0 ∷ bs))) width) c)
+        ∙ ap (λ (c : Read). cond (any_row (map row ps) (b0 ∷ bs)) (character (character_number (take width (b0 ∷ bs))) width) c)
         (none_read post (b0 ∷ bs) (none_above post high b0 bs above h))
 
-    no_row : (bs : List ℕ) → any_row (map row ps) (b0 ∷ bs) ≡ false → Malformed ≡ read_from (b0 ∷ bs)
+    no_row : (bs : List ℕ) → any_row (map row ps) (b0 ∷ bs) ≡ false → malformed ≡ read_from (b0 ∷ bs)
     no_row bs none = sym (by_length bs ∙ rw none)
 
     -- the lead byte and the second byte begin no row
-    pub no_beginning : (bs : List ℕ) → any_row (map two ps) (b0 ∷ get_or bs 0 0 ∷ []) ≡ false → Malformed ≡ read_from (b0 ∷ bs)
+    pub no_beginning : (bs : List ℕ) → any_row (map two ps) (b0 ∷ get_or bs 0 0 ∷ []) ≡ false → malformed ≡ read_from (b0 ∷ bs)
     no_beginning [] none = no_row [] (too_short ps b0)
     no_beginning (b1 ∷ bs) none = no_row (b1 ∷ bs) (by_two ps b0 b1 bs ∙ rw none)
 
     -- a tail is missing
-    pub no_tails : (bs : List ℕ) → starts_with tails (drop 1 bs) ≡ false → Malformed ≡ read_from (b0 ∷ bs)
+    pub no_tails : (bs : List ℕ) → starts_with tails (drop 1 bs) ≡ false → malformed ≡ read_from (b0 ∷ bs)
     no_tails [] none = no_row [] (too_short ps b0)
     no_tails (b1 ∷ bs) none = no_row (b1 ∷ bs) (by_two ps b0 b1 bs ∙ rw none (and-false (any_row (map two ps) (b0 ∷ b1 ∷ []))))
 
@@ -141,41 +141,20 @@ module _ (b : ℕ) where
   pub is_tail : 0x80 ≤ b → b ≤ 0xBF → inside tail b ≡ true
   is_tail l h = rw (le-leb 0x80 b l, le-leb b 0xBF h)
 
-  pub tail_of_lem : (r : ℕ) → r ≡ b → 0x80 ≤ b → b ≤ 0xBF → r ≡ tail_of b
-  tail_of_lem r e l h = e ∙ rw (is_tail l h)
-
-  pub tail_none : (b / 0x40 ≡ 2 → ⊥) → 0 ≡ tail_of b
-  tail_none other = go (inside tail b) refl
-    where
-      go : (t : Bool) → inside tail b ≡ t → 0 ≡ tail_of b
-      go true is = let x = octet tail b true (rw is tt) in absurd (other (omega arith))
-      go false is = rw is
-
   -- what `tail_of` says
-  pub no_tail : tail_of b ≡ 0 → inside tail b ≡ false
-  no_tail e = go (inside tail b) refl e
+  pub no_tail : (e : Malformed) → Err e ≡ tail_of b → inside tail b ≡ false
+  no_tail e none = go (inside tail b) refl none
     where
-      go : (t : Bool) → inside tail b ≡ t → cond t b 0 ≡ 0 → inside tail b ≡ false
-      go true is zero = let x = octet tail b true (rw is tt) in absurd (omega arith)
-      go false is zero = is
+      go : (t : Bool) → inside tail b ≡ t → ◌≡◌ {A = Result ℕ Malformed} (Err e) (cond t (Ok b) (Err (record {}))) → inside tail b ≡ false
+      go true is none = let z : ◌≡◌ {A = ℕ} 0 1 = cc in absurd (omega arith)
+      go false is none = is
 
-  pub tail_most : (r : ℕ) → r ≡ tail_of b → r ≤ 0xBF
-  tail_most r e = go (inside tail b) refl e
+  pub a_tail : (r : ℕ) → Ok r ≡ tail_of b → (r ≡ b) × (0x80 ≤ b) × (b ≤ 0xBF)
+  a_tail r some_byte = go (inside tail b) refl some_byte
     where
-      go : (t : Bool) → inside tail b ≡ t → r ≡ cond t b 0 → r ≤ 0xBF
-      go true is same = let x = octet tail b true (rw is tt) in omega arith
-      go false is same = omega arith
-
-  pub a_tail : 1 ≤ tail_of b → (tail_of b ≡ b) × (0x80 ≤ b) × (b ≤ 0xBF)
-  a_tail e = go (inside tail b) refl e
-    where
-      go : (t : Bool) → inside tail b ≡ t → 1 ≤ cond t b 0 → (cond t b 0 ≡ b) × (0x80 ≤ b) × (b ≤ 0xBF)
-      go true is some_byte = let x = octet tail b true (rw is tt) in (refl, x.0, x.1)
-      go false is some_byte = absurd (omega arith)
-
--- there is none behind the text's end
-pub tail_past : (s : List ℕ) (at : ℕ) → length s ≤ at → 0 ≡ tail_of (get_or s at 0)
-tail_past s at h = rw (get_or-eq_default s 0 h)
+      go : (t : Bool) → inside tail b ≡ t → ◌≡◌ {A = Result ℕ Malformed} (Ok r) (cond t (Ok b) (Err (record {}))) → (r ≡ b) × (0x80 ≤ b) × (b ≤ 0xBF)
+      go true is some_byte = let x = octet tail b true (rw is tt) in (cc, x.0, x.1)
+      go false is some_byte = let z : ◌≡◌ {A = ℕ} 0 1 = cc in absurd (omega arith)
 
 -- the bytes after the second, where one that has to be a tail is none
 first_missing : (ts : List Octets) (bs : List ℕ) → inside tail (get_or bs 0 0) ≡ false → starts_with (tail ∷ ts) bs ≡ false
@@ -230,13 +209,13 @@ module _ (s : List ℕ) (at b0 : ℕ) (e0 : b0 ≡ get_or s at 0) (h : at < leng
   after_second : (i j : ℕ) → suc at + (1 + i) ≡ j → get_or (drop 1 later) i 0 ≡ get_or s j 0
   after_second i j e = get_or-drop 1 later i 0 ∙ after_first (1 + i) j e
 
-  at_position : (c : Character) → c ≡ read_from (b0 ∷ later) → c ≡ character_at s at
+  at_position : (c : Read) → c ≡ read_from (b0 ∷ later) → c ≡ character_at s at
   unfolding character_at
   at_position c e = e ∙ ap read_from (sym from_1)
 
-  pub at_1 : b0 < 0x80 → Char b0 1 1 ≡ character_at s at
+  pub at_1 : b0 < 0x80 → char b0 1 1 ≡ character_at s at
   unfolding read_from
-  at_1 l = at_position (Char b0 1 1) (ap (Char b0 1) (sym (one_unit b0 (omega arith))) ∙ sym (reads_1 b0 later l))
+  at_1 l = at_position (char b0 1 1) (ap (char b0 1) (sym (one_unit b0 (omega arith))) ∙ sym (reads_1 b0 later l))
 
   module _ (b1 : ℕ) (e1 : b1 ≡ get_or s (at + 1) 0) where
     second : get_or later 0 0 ≡ b1
@@ -255,9 +234,9 @@ module _ (s : List ℕ) (at b0 : ℕ) (e0 : b0 ≡ get_or s at 0) (h : at < leng
 
     -- two bytes
     module _ (l : 0x80 ≤ b0) (u : b0 < 0xE0) where
-      pub not_two : begins_row 2 b0 b1 ≡ false → Malformed ≡ character_at s at
+      pub not_two : begins_row 2 b0 b1 ≡ false → malformed ≡ character_at s at
       not_two none =
-          at_position Malformed
+          at_position malformed
           (no_beginning [] (take 1 sequences) (drop 2 sequences) (pairs_of 2) 0x80 0xE0 refl tt tt b0 l u later (rw second none))
 
       pub is_two : begins_row 2 b0 b1 ≡ true → Spells s at (b0 * 0x40 + b1) 0x3080 2 1
@@ -267,35 +246,35 @@ module _ (s : List ℕ) (at b0 : ℕ) (e0 : b0 ≡ get_or s at 0) (h : at < leng
           let k : at + 1 < length s = in_text s (at + 1) (omega (arith, r.second_first)) in
           let v : b0 * 0x40 + b1 - 0x3080 ≡ b0 % 0x20 * 0x40 + b1 % 0x40 = omega (arith, r) in (
             omega (arith, r),
-            sym (ap (λ (c : ℕ). Char c 2 1) v
-                ∙ ap (Char (b0 % 0x20 * 0x40 + b1 % 0x40) 2) (sym (one_unit (b0 % 0x20 * 0x40 + b1 % 0x40) (omega arith)))
+            sym (ap (λ (c : ℕ). char c 2 1) v
+                ∙ ap (char (b0 % 0x20 * 0x40 + b1 % 0x40) 2) (sym (one_unit (b0 % 0x20 * 0x40 + b1 % 0x40) (omega arith)))
                 ∙ whole_row [] (take 1 sequences) (drop 2 sequences) (pairs_of 2) 0x80 0xE0 refl tt tt b0 l u b1 (drop (at + 2) s) begins refl
                 ∙ ap read_from (sym (from_2 k))),
           )
 
     -- three bytes, of which the third is what `tail_of` leaves of it
     module _ (l : 0xE0 ≤ b0) (u : b0 < 0xF0) where
-      pub not_three : begins_row 3 b0 b1 ≡ false → Malformed ≡ character_at s at
+      pub not_three : begins_row 3 b0 b1 ≡ false → malformed ≡ character_at s at
       not_three none =
-          at_position Malformed
+          at_position malformed
           (no_beginning (tail ∷ []) (take 2 sequences) (drop 6 sequences) (pairs_of 3) 0xE0 0xF0 refl tt tt b0 l u later (rw second none))
 
-      pub no_third : tail_of (get_or s (at + 2) 0) ≡ 0 → Malformed ≡ character_at s at
-      no_third none =
-          at_position Malformed
+      pub no_third : (e : Malformed) → Err e ≡ tail_of (get_or s (at + 2) 0) → malformed ≡ character_at s at
+      no_third e none =
+          at_position malformed
           (no_tails (tail ∷ []) (take 2 sequences) (drop 6 sequences) (pairs_of 3) 0xE0 0xF0 refl tt tt b0 l u later
-          (first_missing [] (drop 1 later) (rw (after_second 0 (at + 2) (omega arith)) (no_tail (get_or s (at + 2) 0) none))))
+          (first_missing [] (drop 1 later) (rw (after_second 0 (at + 2) (omega arith)) (no_tail (get_or s (at + 2) 0) e none))))
 
-      pub is_three : (b2 : ℕ) → b2 ≡ tail_of (get_or s (at + 2) 0) → 1 ≤ b2 → begins_row 3 b0 b1 ≡ true → Spells s at ((b0 * 0x40 + b1) * 0x40 + b2) 0xE2080 3 1
+      pub is_three : (b2 : ℕ) → Ok b2 ≡ tail_of (get_or s (at + 2) 0) → begins_row 3 b0 b1 ≡ true → Spells s at ((b0 * 0x40 + b1) * 0x40 + b2) 0xE2080 3 1
       unfolding character_at
-      is_three b2 e2 some_byte begins =
+      is_three b2 e2 begins =
           let r = ranges (pairs_of 3) 0xE0 0xEF b0 b1 tt begins in
-          let t = a_tail (get_or s (at + 2) 0) (omega arith) in
-          let x2 : b2 ≡ get_or s (at + 2) 0 = e2 ∙ t.0 in
+          let t = a_tail (get_or s (at + 2) 0) b2 e2 in
+          let x2 : b2 ≡ get_or s (at + 2) 0 = t.0 in
           let v : (b0 * 0x40 + b1) * 0x40 + b2 - 0xE2080 ≡ b0 % 0x10 * 0x1000 + b1 % 0x40 * 0x40 + b2 % 0x40 = omega (arith, r, t.1, t.2, x2) in (
             omega (arith, r, t.1, x2),
-            sym (ap (λ (c : ℕ). Char c 3 1) v
-                ∙ ap (Char (b0 % 0x10 * 0x1000 + b1 % 0x40 * 0x40 + b2 % 0x40) 3)
+            sym (ap (λ (c : ℕ). char c 3 1) v
+                ∙ ap (char (b0 % 0x10 * 0x1000 + b1 % 0x40 * 0x40 + b2 % 0x40) 3)
                 (sym (one_unit (b0 % 0x10 * 0x1000 + b1 % 0x40 * 0x40 + b2 % 0x40) (omega arith)))
                 ∙ whole_row (tail ∷ []) (take 2 sequences) (drop 6 sequences) (pairs_of 3) 0xE0 0xF0 refl tt tt b0 l u b1 (b2 ∷ drop (at + 3) s) begins
                 (rw (is_tail b2 (omega (arith, t.1, x2)) (omega (arith, t.2, x2))))
@@ -304,32 +283,32 @@ module _ (s : List ℕ) (at b0 : ℕ) (e0 : b0 ≡ get_or s at 0) (h : at < leng
 
     -- four bytes
     module _ (l : 0xF0 ≤ b0) (u : b0 < 0x100) where
-      pub not_four : begins_row 4 b0 b1 ≡ false → Malformed ≡ character_at s at
+      pub not_four : begins_row 4 b0 b1 ≡ false → malformed ≡ character_at s at
       not_four none =
-          at_position Malformed
+          at_position malformed
           (no_beginning (tail ∷ tail ∷ []) (take 6 sequences) [] (pairs_of 4) 0xF0 0x100 refl tt tt b0 l u later (rw second none))
 
-      no_tails_of_four : starts_with (tail ∷ tail ∷ []) (drop 1 later) ≡ false → Malformed ≡ character_at s at
-      no_tails_of_four none = at_position Malformed (no_tails (tail ∷ tail ∷ []) (take 6 sequences) [] (pairs_of 4) 0xF0 0x100 refl tt tt b0 l u later none)
+      no_tails_of_four : starts_with (tail ∷ tail ∷ []) (drop 1 later) ≡ false → malformed ≡ character_at s at
+      no_tails_of_four none = at_position malformed (no_tails (tail ∷ tail ∷ []) (take 6 sequences) [] (pairs_of 4) 0xF0 0x100 refl tt tt b0 l u later none)
 
-      pub no_third_of_four : tail_of (get_or s (at + 2) 0) ≡ 0 → Malformed ≡ character_at s at
-      no_third_of_four none =
+      pub no_third_of_four : (e : Malformed) → Err e ≡ tail_of (get_or s (at + 2) 0) → malformed ≡ character_at s at
+      no_third_of_four e none =
           no_tails_of_four
-          (first_missing (tail ∷ []) (drop 1 later) (rw (after_second 0 (at + 2) (omega arith)) (no_tail (get_or s (at + 2) 0) none)))
+          (first_missing (tail ∷ []) (drop 1 later) (rw (after_second 0 (at + 2) (omega arith)) (no_tail (get_or s (at + 2) 0) e none)))
 
-      pub no_fourth : tail_of (get_or s (at + 3) 0) ≡ 0 → Malformed ≡ character_at s at
-      no_fourth none =
-          no_tails_of_four (second_missing [] (drop 1 later) (rw (after_second 1 (at + 3) (omega arith)) (no_tail (get_or s (at + 3) 0) none)))
+      pub no_fourth : (e : Malformed) → Err e ≡ tail_of (get_or s (at + 3) 0) → malformed ≡ character_at s at
+      no_fourth e none =
+          no_tails_of_four (second_missing [] (drop 1 later) (rw (after_second 1 (at + 3) (omega arith)) (no_tail (get_or s (at + 3) 0) e none)))
 
-      pub is_four : (b2 b3 : ℕ) → b2 ≡ tail_of (get_or s (at + 2) 0) → 1 ≤ b2 → b3 ≡ tail_of (get_or s (at + 3) 0) → 1 ≤ b3 → begins_row 4 b0 b1 ≡ true
+      pub is_four : (b2 b3 : ℕ) → Ok b2 ≡ tail_of (get_or s (at + 2) 0) → Ok b3 ≡ tail_of (get_or s (at + 3) 0) → begins_row 4 b0 b1 ≡ true
           → Spells s at (((b0 * 0x40 + b1) * 0x40 + b2) * 0x40 + b3) 0x3C82080 4 2
       unfolding character_at
-      is_four b2 b3 e2 some_2 e3 some_3 begins =
+      is_four b2 b3 e2 e3 begins =
           let r = ranges (pairs_of 4) 0xF0 0xF4 b0 b1 tt begins in
-          let t = a_tail (get_or s (at + 2) 0) (omega arith) in
-          let w = a_tail (get_or s (at + 3) 0) (omega arith) in
-          let x2 : b2 ≡ get_or s (at + 2) 0 = e2 ∙ t.0 in
-          let x3 : b3 ≡ get_or s (at + 3) 0 = e3 ∙ w.0 in
+          let t = a_tail (get_or s (at + 2) 0) b2 e2 in
+          let w = a_tail (get_or s (at + 3) 0) b3 e3 in
+          let x2 : b2 ≡ get_or s (at + 2) 0 = t.0 in
+          let x3 : b3 ≡ get_or s (at + 3) 0 = w.0 in
           let k : 0x80 ≤ b2 = omega (arith, t.1, x2) in
           let m : b2 ≤ 0xBF = omega (arith, t.2, x2) in
           let p : 0x80 ≤ b3 = omega (arith, w.1, x3) in
@@ -341,4 +320,4 @@ module _ (s : List ℕ) (at b0 : ℕ) (e0 : b0 ≡ get_or s at 0) (h : at < leng
           (rw (is_tail b2 k m, is_tail b3 p q))
           ∙ ap read_from (sym (from_4 b2 x2 b3 x3 (in_text s (at + 3) (omega (arith, w.1)))))) in
           let two : units_of n ≡ 2 = two_units n (from_four n (reads_only_encodings (drop at s) n 4 (units_of n) read).1) in
-          (v.0, read ∙ ap (Char n 4) two ∙ ap (λ (c : ℕ). Char c 4 2) (sym v.1))
+          (v.0, read ∙ ap (char n 4) two ∙ ap (λ (c : ℕ). char c 4 2) (sym v.1))

@@ -8,12 +8,10 @@ use Prim.Native.Nat.{ℕ, suc, ◌≤◌}
 use native.Mathlib.Omega.{arith}
 use lib.Dec.{T, leb}
 use lib.ListN.{length, take}
-use Rattle.utf8.specs.declared.Character.{Character}
-use Rattle.utf8.specs.declared.Character.TheVariants.{Char}
-use Rattle.utf8.specs.Characters.{Octets, sequences, starts_with, character_number, character, read_by, read_from}
+use Rattle.utf8.specs.Characters.{Read, char, Octets, sequences, starts_with, character_number, character, read_by, read_from}
 use Rattle.utf8.specs.Rows.{any_row}
 use Rattle.utf8.specs.Claims.{NineRows, is_character, ReadExactlyByRows, ReadByItsRow, OneRowOnly}
-use Rattle.utf8.proofs.Encodings.{both, octet}
+use Rattle.utf8.proofs.Encodings.{both, octet, same_char}
 use Rattle.utf8.proofs.Rows.{leads_from}
 
 pub nine_rows : NineRows
@@ -21,7 +19,7 @@ nine_rows = refl
 
 -- ---- a character is read exactly where some row fits
 
-either : (fits : Bool) (c w : ℕ) (other : Character) → is_character (cond fits (character c w) other) ≡ (fits || is_character other)
+either : (fits : Bool) (c w : ℕ) (other : Read) → is_character (cond fits (character c w) other) ≡ (fits || is_character other)
 either true c w other = refl
 either false c w other = refl
 
@@ -41,16 +39,15 @@ read_exactly_by_rows (b ∷ bs) = by_rows sequences (b ∷ bs)
 abbrev Among : List (List Octets) → List ℕ → ℕ → ℕ → Type 0
 Among rows bs c w = (row : List Octets) × Memᴰ row rows × (starts_with row bs ≡ true) × (w ≡ length row) × (c ≡ character_number (take w bs))
 
-first_that_fits : (rows : List (List Octets)) (bs : List ℕ) (c w u : ℕ) → read_by rows bs ≡ Char c w u → Among rows bs c w
+first_that_fits : (rows : List (List Octets)) (bs : List ℕ) (c w u : ℕ) → read_by rows bs ≡ char c w u → Among rows bs c w
 first_that_fits [] bs c w u e = let z : ◌≡◌ {A = ℕ} 0 1 = cc in absurd (omega arith)
 first_that_fits (row ∷ rows) bs c w u e = go (starts_with row bs) refl e (first_that_fits rows bs c w u)
   where
-    go : (t : Bool) → starts_with row bs ≡ t → cond t (character (character_number (take (length row) bs)) (length row)) (read_by rows bs) ≡ Char c w u
-        → (read_by rows bs ≡ Char c w u → Among rows bs c w) → Among (row ∷ rows) bs c w
+    go : (t : Bool) → starts_with row bs ≡ t → cond t (character (character_number (take (length row) bs)) (length row)) (read_by rows bs) ≡ char c w u
+        → (read_by rows bs ≡ char c w u → Among rows bs c w) → Among (row ∷ rows) bs c w
     go true fits is later =
-        let v : character_number (take (length row) bs) ≡ c = cc in
-        let n : length row ≡ w = cc in
-        (row, Memᴰ.head refl, fits, sym n, sym v ∙ ap (λ (k : ℕ). character_number (take k bs)) n)
+        let same = same_char is in
+        (row, Memᴰ.head refl, fits, sym same.1, sym same.0 ∙ ap (λ (k : ℕ). character_number (take k bs)) same.1)
     go false fits is later = let one = later is in (one.0, Memᴰ.tail one.1, one.2, one.3, one.4)
 
 pub read_by_its_row : ReadByItsRow

@@ -1,8 +1,8 @@
 -- One character in UTF-8, written from RFC 3629: section 4's syntax of byte sequences, and section 3's table of the bits that make a character number.
 -- Assumes nothing.
-use Rattle.std.specs.Prelude.{ℕ, ◌+◌, ◌*◌, ◌%◌, Bool, true, false, cond, ◌&&◌, List, [], ◌∷◌, leb, length, take, drop}
-use Rattle.utf8.specs.declared.Character.{Character}
-use Rattle.utf8.specs.declared.Character.TheVariants.{Char, Malformed, End}
+use Rattle.std.specs.Prelude.{ℕ, ◌+◌, ◌*◌, ◌%◌, Bool, true, false, cond, ◌&&◌, List, [], ◌∷◌, leb, length, take, drop, Result, Ok, Err, Option, Some, None}
+use Rattle.utf8.specs.declared.Malformed.{Malformed}
+use Rattle.utf8.specs.declared.NextChar.{NextChar}
 use Rattle.utf8.specs.Utf16.{units_of}
 
 -- a range of octets, as %xC2-DF
@@ -48,20 +48,34 @@ character_number (a ∷ b ∷ []) = a % 0x20 * 0x40 + b % 0x40
 character_number (a ∷ b ∷ c ∷ []) = a % 0x10 * 0x1000 + b % 0x40 * 0x40 + c % 0x40
 character_number (a ∷ b ∷ c ∷ d ∷ rest) = a % 0x08 * 0x40000 + b % 0x40 * 0x1000 + c % 0x40 * 0x40 + d % 0x40
 
+-- what bytes begin with: a character, nothing where there are none, or bytes that begin no character
+abbrev pub Read : Type 0
+Read = Result (Option NextChar) Malformed
+
+-- a character by its number, how many bytes it takes, and how many code units in UTF-16
+abbrev pub char : ℕ → ℕ → ℕ → Read
+char c w u = Ok (Some (record { value = c; width = w; units = u }))
+
+abbrev pub ended : Read
+ended = Ok None
+
+abbrev pub malformed : Read
+malformed = Err (record {})
+
 -- a character by its number and by how many bytes it takes, with the code units that it takes in UTF-16
-abbrev pub character : ℕ → ℕ → Character
-character c w = Char c w (units_of c)
+abbrev pub character : ℕ → ℕ → Read
+character c w = char c w (units_of c)
 
 -- the character of the first of these sequences with which the bytes begin
-abbrev pub read_by : List (List Octets) → List ℕ → Character
-read_by [] bs = Malformed
+abbrev pub read_by : List (List Octets) → List ℕ → Read
+read_by [] bs = malformed
 read_by (s ∷ rest) bs = cond (starts_with s bs) (character (character_number (take (length s) bs)) (length s)) (read_by rest bs)
 
 -- the character with which the bytes begin
-unfoldable pub read_from : List ℕ → Character
-read_from [] = End
+unfoldable pub read_from : List ℕ → Read
+read_from [] = ended
 read_from (b ∷ bs) = read_by sequences (b ∷ bs)
 
 -- the character at a position of a text
-unfoldable pub character_at : List ℕ → ℕ → Character
+unfoldable pub character_at : List ℕ → ℕ → Read
 character_at s at = read_from (drop at s)

@@ -1,12 +1,10 @@
 -- What is claimed of the definitions of `Characters` and `Text`: they read by the nine rows of the table, and exactly the encodings of scalar values.
 -- Proofs: `proofs/Table.antt`, `proofs/Encodings.antt`, `proofs/Texts.antt`, `proofs/Utf16.antt`.
 -- Assumes nothing.
-use Rattle.std.specs.Prelude.{ℕ, ◌+◌, ◌-◌, ◌*◌, ◌≤◌, ◌≡◌, Bool, true, false, length, take, drop}
+use Rattle.std.specs.Prelude.{ℕ, ◌+◌, ◌-◌, ◌*◌, ◌≤◌, ◌≡◌, Bool, true, false, length, take, drop, Ok, Err, Some, None}
 use mathlib.Core.List.{List, [], ◌∷◌, ◌++◌, Memᴰ}
 use Rattle.std.proofs.Math.Option.{some}
-use Rattle.utf8.specs.declared.Character.{Character}
-use Rattle.utf8.specs.declared.Character.TheVariants.{Char, Malformed, End}
-use Rattle.utf8.specs.Characters.{Octets, sequences, starts_with, character_number, read_from}
+use Rattle.utf8.specs.Characters.{Read, char, Octets, sequences, starts_with, character_number, read_from}
 use Rattle.utf8.specs.Rows.{any_row}
 use Rattle.utf8.specs.Encoding.{Scalar, Scalars, encode, encode_text}
 use Rattle.utf8.specs.Utf16.{unit_length, encode_utf16, encode_text_utf16}
@@ -17,10 +15,10 @@ use Rattle.utf8.specs.Text.{chars_of}
 abbrev pub NineRows : Type 0
 NineRows = length sequences ≡ 9
 
-abbrev pub is_character : Character → Bool
-is_character (Char c w u) = true
-is_character Malformed = false
-is_character End = false
+abbrev pub is_character : Read → Bool
+is_character (Ok (Some c)) = true
+is_character (Ok None) = false
+is_character (Err e) = false
 
 abbrev pub ReadExactlyByRows : Type 0
 ReadExactlyByRows = (bs : List ℕ) → is_character (read_from bs) ≡ any_row sequences bs
@@ -34,7 +32,7 @@ pub record ByRow (bs : List ℕ) (c w : ℕ) : Type 0 where
   pub value : c ≡ character_number (take w bs)
 
 abbrev pub ReadByItsRow : Type 0
-ReadByItsRow = (bs : List ℕ) (c w u : ℕ) → read_from bs ≡ Char c w u → ByRow bs c w
+ReadByItsRow = (bs : List ℕ) (c w u : ℕ) → read_from bs ≡ char c w u → ByRow bs c w
 
 -- no bytes begin with two rows
 abbrev pub OneRowOnly : Type 0
@@ -46,12 +44,12 @@ OneRowOnly =
 
 -- encode, then read: the value, its width and its units in UTF-16, whatever follows
 abbrev pub ReadsEncodings : Type 0
-ReadsEncodings = (c : ℕ) (rest : List ℕ) → Scalar c → read_from (encode c ++ rest) ≡ Char c (length (encode c)) (length (encode_utf16 c))
+ReadsEncodings = (c : ℕ) (rest : List ℕ) → Scalar c → read_from (encode c ++ rest) ≡ char c (length (encode c)) (length (encode_utf16 c))
 
 -- whatever is read is such an encoding
 abbrev pub ReadsOnlyEncodings : Type 0
 ReadsOnlyEncodings =
-    (bs : List ℕ) (c w u : ℕ) → read_from bs ≡ Char c w u
+    (bs : List ℕ) (c w u : ℕ) → read_from bs ≡ char c w u
     → Scalar c × (length (encode c) ≡ w) × (encode c ++ drop w bs ≡ bs) × (length (encode_utf16 c) ≡ u)
 
 -- the same of whole texts

@@ -1,7 +1,8 @@
 -- The rows of `sequences`, which are those of the Unicode Standard's table 3-7 of well-formed byte sequences, by their octets' ranges: what is decided
 -- of a lead byte and a second byte, and of the bytes after them.
 -- Assumes nothing.
-use Rattle.std.specs.Prelude.{ℕ, Bool, false, cond, ◌&&◌, ◌||◌, List, [], ◌∷◌, map, leb, eqb, length, take}
+use Rattle.std.specs.Prelude.{ℕ, Bool, false, cond, ◌&&◌, ◌||◌, List, [], ◌∷◌, map, leb, eqb, length, take, Result, Ok, Err}
+use Rattle.utf8.specs.declared.Malformed.{Malformed}
 use Rattle.utf8.specs.Characters.{Octets, tail, sequences, starts_with}
 
 -- whether a byte is one of a range
@@ -22,6 +23,6 @@ of_length n (row ∷ rows) = cond (eqb (length row) n) (row ∷ of_length n rows
 abbrev pub begins_row : ℕ → ℕ → ℕ → Bool
 begins_row n b0 b1 = any_row (map (take 2) (of_length n sequences)) (b0 ∷ b1 ∷ [])
 
--- a third or fourth byte: 0 where it is not UTF8-tail
-abbrev pub tail_of : ℕ → ℕ
-tail_of b = cond (inside tail b) b 0
+-- a third or fourth byte, where it is UTF8-tail
+abbrev pub tail_of : ℕ → Result ℕ Malformed
+tail_of b = cond (inside tail b) (Ok b) (Err (record {}))

@@ -6,8 +6,7 @@ use mathlib.Core.List.{List}
 use mathlib.Core.Option.{Option, none, some, IsSome}
 use lib.ListN.{length, take, drop, length-drop}
 use lib.Seq.{take-length}
-use Rattle.utf8.specs.declared.Character.TheVariants.{Char}
-use Rattle.utf8.specs.Characters.{character_at}
+use Rattle.utf8.specs.Characters.{char, character_at}
 use Rattle.utf8.specs.Text.{before, chars_of, chars_from}
 use Rattle.utf8.proofs.Positions.{from_char, from_start, still_chars}
 use Rattle.walk.specs.Walk.{BeginsWith}
@@ -27,5 +26,5 @@ module _ (s : List ℕ) (at : ℕ) where
     begins ch none some_rest = absurd some_rest
     begins ch (some cs) some_rest = refl
 
-    pub begins_with : (ch w u : ℕ) → character_at s at ≡ Char ch w u → BeginsWith ch (chars_of (take (length s - at) (drop at s)))
+    pub begins_with : (ch w u : ℕ) → character_at s at ≡ char ch w u → BeginsWith ch (chars_of (take (length s - at) (drop at s)))
     begins_with ch w u read = rw (part_chars, from_char s at ch w u read) (begins ch (chars_from s (at + w)) (still_chars s at some_chars ch w u read))

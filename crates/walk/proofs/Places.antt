@@ -10,15 +10,13 @@ use native.Mathlib.Omega.{arith}
 use borrow.Author.Tests.{ltb-true, lt-ltb, le-ltb, eq-eqb, ne_eqb}
 use lib.Dec.{ltb, eqb}
 use lib.ListN.{length, get_or}
+use Rattle.std.specs.Prelude.{Result, Ok, Err, Some, None}
 use Rattle.trie.specs.declared.ParentRef.{ParentRef}
 use Rattle.trie.specs.declared.ParentRef.TheVariants.{Root, RootEntry, Slot}
 use Rattle.trie.specs.declared.Probe.{Probe}
-use Rattle.trie.specs.declared.Probe.TheVariants.{Found, Empty, Endless}
-use Rattle.trie.specs.declared.Step.{Step}
-use Rattle.trie.specs.declared.Step.TheVariants.{At, Nothing, Damaged}
-use Rattle.trie.specs.declared.WordNumber.{WordNumber}
-use Rattle.trie.specs.declared.WordNumber.TheVariants.{NoWord}
-use Rattle.trie.specs.Trie.{CharTrie, child_of, word_of, children_of, keys_of, links_of, word_number, word_at, SlotCount, SlotTable, key_of, node_at, from_root}
+use Rattle.trie.specs.declared.Probe.TheVariants.{Found, Empty}
+use Rattle.trie.specs.declared.Damaged.{Damaged}
+use Rattle.trie.specs.Trie.{CharTrie, child_of, word_of, children_of, keys_of, links_of, word_number, word_at, SlotCount, SlotTable, key_of, node_at, from_root, Step, WordNumber}
 use Rattle.trie.specs.Trie.{probe_of, step_by_probe, root_step, slot_step, open_step}
 use Rattle.trie.specs.Trie.{bits_at, tested_step, step_from, walk, trie_of}
 use Rattle.trie.specs.Claims.{all_ones}
@@ -55,18 +53,18 @@ only_first t (Slot i) ch e = absurd (false≢true e)
 
 -- where a step leads, if anywhere, is a place of the tables
 abbrev pub LeadsInside : CharTrie → Step → Type 0
-LeadsInside t (At q) = Inside (length t.root_children) (length t.keys) q
-LeadsInside t Nothing = Unit {0}
-LeadsInside t Damaged = Unit {0}
+LeadsInside t (Ok (Some q)) = Inside (length t.root_children) (length t.keys) q
+LeadsInside t (Ok None) = Unit {0}
+LeadsInside t (Err d) = Unit {0}
 
 module _ (t : CharTrie) (allowed : SlotCount (length t.keys)) where
-  by_probe : (key : ℕ) (p : Probe) → probe_of t.keys key ≡ p → LeadsInside t (step_by_probe p)
+  by_probe : (key : ℕ) (p : Result Probe Damaged) → probe_of t.keys key ≡ p → LeadsInside t (step_by_probe p)
   unfolding Inside
-  by_probe key (Found i) e = (found_has_key t.keys key i allowed e).0
-  by_probe key (Empty i) e = tt
-  by_probe key Endless e = tt
+  by_probe key (Ok (Found i)) e = (found_has_key t.keys key i allowed e).0
+  by_probe key (Ok (Empty i)) e = tt
+  by_probe key (Err d) e = tt
 
-  by_entry : (ch : ℕ) (empty : Bool) → ch < length t.root_children → LeadsInside t (cond empty Nothing (At (RootEntry ch)))
+  by_entry : (ch : ℕ) (empty : Bool) → ch < length t.root_children → LeadsInside t (cond empty (Ok None) (Ok (Some (RootEntry ch))))
   unfolding Inside
   by_entry ch true below = tt
   by_entry ch false below = below
@@ -79,7 +77,7 @@ module _ (t : CharTrie) (allowed : SlotCount (length t.keys)) where
   unfolding open_step
   open_inside p ch = by_root p ch (from_root t p ch) refl
 
-  by_bits : (p : ParentRef) (ch : ℕ) (bits : Bool) → LeadsInside t (elim bits [ true ↦ open_step t p ch | false ↦ Nothing ])
+  by_bits : (p : ParentRef) (ch : ℕ) (bits : Bool) → LeadsInside t (elim bits [ true ↦ open_step t p ch | false ↦ Ok None ])
   by_bits p ch true = open_inside p ch
   by_bits p ch false = tt
 
@@ -87,13 +85,13 @@ module _ (t : CharTrie) (allowed : SlotCount (length t.keys)) where
   unfolding tested_step
   tested_inside p ch = by_bits p ch (bits_at t p ch)
 
-  onward : (cs : List ℕ) (rest : (q : ParentRef) → LeadsInside t (At q) → LeadsInside t (walk t q cs)) (step : Step) → LeadsInside t step
-      → LeadsInside t (elim step [ At q ↦ walk t q cs | Nothing ↦ Nothing | Damaged ↦ Damaged ])
-  onward cs rest (At q) there = rest q there
-  onward cs rest Nothing there = tt
-  onward cs rest Damaged there = tt
+  onward : (cs : List ℕ) (rest : (q : ParentRef) → LeadsInside t (Ok (Some q)) → LeadsInside t (walk t q cs)) (step : Step) → LeadsInside t step
+      → LeadsInside t (elim step [ Ok (Some q) ↦ walk t q cs | Ok None ↦ Ok None | Err d ↦ Err d ])
+  onward cs rest (Ok (Some q)) there = rest q there
+  onward cs rest (Ok None) there = tt
+  onward cs rest (Err d) there = tt
 
-  walk_inside : (cs : List ℕ) (p : ParentRef) → LeadsInside t (At p) → LeadsInside t (walk t p cs)
+  walk_inside : (cs : List ℕ) (p : ParentRef) → LeadsInside t (Ok (Some p)) → LeadsInside t (walk t p cs)
   unfolding walk
   walk_inside [] p inside = inside
   walk_inside (c ∷ cs) p inside = onward cs (walk_inside cs) (tested_step t p c) (tested_inside p c)
@@ -119,7 +117,7 @@ module _ (roots slots : List ℕ) (shift : ℕ) (table : SlotTable (length slots
   inside_lent q inside = rw (length_children roots, keys_whole slots table.whole) at inside
 
   -- where a step that the code has taken leads
-  module _ (p q : ParentRef) (ch : ℕ) (r : Step) (at : r ≡ At q) where
+  module _ (p q : ParentRef) (ch : ℕ) (r : Step) (at : r ≡ Ok (Some q)) where
     pub leads_tested : r ≡ tested_step (trie_of roots slots) p ch → Inside (length roots) (length slots / 2) q
     leads_tested step = inside_lent q (tested_steps_inside (trie_of roots slots) p q ch counted (sym step ∙ at))
 
@@ -127,7 +125,7 @@ module _ (roots slots : List ℕ) (shift : ℕ) (table : SlotTable (length slots
     leads_open step = inside_lent q (open_steps_inside (trie_of roots slots) p q ch counted (sym step ∙ at))
 
   -- and a walk from the root
-  pub leads_walk : (q : ParentRef) (cs : List ℕ) → walk (trie_of roots slots) Root cs ≡ At q → Inside (length roots) (length slots / 2) q
+  pub leads_walk : (q : ParentRef) (cs : List ℕ) → walk (trie_of roots slots) Root cs ≡ Ok (Some q) → Inside (length roots) (length slots / 2) q
   leads_walk q cs e = inside_lent q (walks_inside (trie_of roots slots) q cs counted e)
 
 pub starts_inside : (roots slots : ℕ) → Inside roots slots Root
@@ -203,11 +201,11 @@ module _ (t : CharTrie) where
 
 module _ (roots keys : List ℕ) (ch : ℕ) where
   module _ (below : ch < length roots) (child : ℕ) (read : child ≡ child_of (get_or roots ch 0)) where
-    pub root_empty : child ≡ 0 → Nothing ≡ first_step (children_of roots) keys ch
+    pub root_empty : child ≡ 0 → Ok None ≡ first_step (children_of roots) keys ch
     unfolding first_step
     root_empty empty = rw (length_children roots, lt-ltb _ _ below, child_at roots ch, ← read, eq-eqb _ _ empty)
 
-    pub root_taken : (child ≡ 0 → ⊥) → At (RootEntry ch) ≡ first_step (children_of roots) keys ch
+    pub root_taken : (child ≡ 0 → ⊥) → Ok (Some (RootEntry ch)) ≡ first_step (children_of roots) keys ch
     unfolding first_step
     root_taken taken = rw (length_children roots, lt-ltb _ _ below, child_at roots ch, ← read, ne_eqb _ _ taken)
 
@@ -245,7 +243,7 @@ module _ (roots slots : List ℕ) (used : ℕ) (place : ParentRef) where
   abbrev t' : CharTrie
   t' = trie_of roots slots
 
-  pub word_at_root : place ≡ Root → NoWord ≡ word_at used t' place
+  pub word_at_root : place ≡ Root → Ok None ≡ word_at used t' place
   unfolding word_at
   word_at_root e = rw e
 

@@ -1,16 +1,12 @@
 -- The walks of `Trie`, as the functions here get their tables: a slice for each part, and the word as a text. Document 01, "Into the trie".
 -- Assumes nothing.
-use Rattle.std.specs.Prelude.{ℕ, ◌<◌, cond, List, [], ◌∷◌, ◌≡◌, eqb, ltb, length, get_or}
+use Rattle.std.specs.Prelude.{ℕ, ◌<◌, cond, List, [], ◌∷◌, ◌≡◌, eqb, ltb, length, get_or, Result, Ok, Err, Some, None}
 use Rattle.std.proofs.Math.Option.{Option, none, some}
-use Rattle.trie.specs.declared.Got.{Got}
-use Rattle.trie.specs.declared.Got.TheVariants.{Absent}
 use Rattle.trie.specs.declared.ParentRef.{ParentRef}
 use Rattle.trie.specs.declared.ParentRef.TheVariants.{Root, RootEntry, Slot}
-use Rattle.trie.specs.declared.Step.{Step}
-use Rattle.trie.specs.declared.Step.TheVariants.{At, Nothing}
-use Rattle.trie.specs.Trie.{CharTrie, Reach, Reached, NoEnd, key_of, probe_of, step_by_probe, walk, word_at, get_of, reach, new_slots, new_nodes}
+use Rattle.trie.specs.Trie.{CharTrie, Reach, Reached, NoEnd, key_of, probe_of, step_by_probe, walk, word_at, get_of, reach, new_slots, new_nodes, Step, WordNumber, damage}
+use Rattle.trie.specs.declared.Damaged.{Damaged}
 use Rattle.walk.specs.declared.Room.{Room}
-use Rattle.walk.specs.declared.Room.TheVariants.{Whole, Partly}
 
 -- a place of a table with so many root entries and slots
 unfoldable pub Inside : ℕ → ℕ → ParentRef → Type 0
@@ -22,17 +18,17 @@ Inside roots slots (Slot i) = i < slots
 unfoldable pub first_step : List ℕ → List ℕ → ℕ → Step
 first_step root_children keys ch =
     cond (ltb ch (length root_children))
-    (cond (eqb (get_or root_children ch 0) 0) Nothing (At (RootEntry ch)))
+    (cond (eqb (get_or root_children ch 0) 0) (Ok None) (Ok (Some (RootEntry ch))))
     (step_by_probe (probe_of keys (key_of 0 ch)))
 
 -- where a text's steps lead from a place; a malformed one's lead nowhere
 unfoldable pub walk_from : CharTrie → ParentRef → Option (List ℕ) → Step
-walk_from t p none = Nothing
+walk_from t p none = Ok None
 walk_from t p (some cs) = walk t p cs
 
 -- what a lookup finds for a text; a malformed one is no word
-unfoldable pub got_of : ℕ → CharTrie → Option (List ℕ) → Got
-got_of used t none = Absent
+unfoldable pub got_of : ℕ → CharTrie → Option (List ℕ) → WordNumber
+got_of used t none = Ok None
 got_of used t (some cs) = get_of used t cs
 
 -- the text has characters, the first of which is this one
@@ -43,19 +39,19 @@ BeginsWith ch (some (c ∷ cs)) = c ≡ ch
 
 -- what new steps take for all of these characters, from a place that is there
 unfoldable pub new_steps : CharTrie → ParentRef → List ℕ → Room
-new_steps t p cs = Partly (new_slots t p cs) (new_nodes cs)
+new_steps t p cs = record { slots = new_slots t p cs; nodes = new_nodes cs }
 
--- what a new word finds, where its steps that are there end
-unfoldable pub room_at : ℕ → CharTrie → Reach → Room
-room_at used t (Reached p []) = Whole (word_at used t p)
-room_at used t (Reached p (c ∷ cs)) = new_steps t p (c ∷ cs)
-room_at used t NoEnd = Room.Damaged
+-- what a new word finds, where its steps that are there end; where that is all of them, the word number there has to be good
+unfoldable pub room_at : ℕ → CharTrie → Reach → Result Room Damaged
+room_at used t (Reached p []) = elim (word_at used t p) [ Ok w ↦ Ok (new_steps t p []) | Err d ↦ Err d ]
+room_at used t (Reached p (c ∷ cs)) = Ok (new_steps t p (c ∷ cs))
+room_at used t NoEnd = Err damage
 
 -- the same for a text, from a place on; a malformed one is not walked
-unfoldable pub room_from : ℕ → CharTrie → ParentRef → Option (List ℕ) → Room
-room_from used t p none = Room.Damaged
+unfoldable pub room_from : ℕ → CharTrie → ParentRef → Option (List ℕ) → Result Room Damaged
+room_from used t p none = Err damage
 room_from used t p (some cs) = room_at used t (reach t p cs)
 
 -- and for a whole word
-abbrev pub room_of : ℕ → CharTrie → Option (List ℕ) → Room
+abbrev pub room_of : ℕ → CharTrie → Option (List ℕ) → Result Room Damaged
 room_of used t cs = room_from used t Root cs

@@ -3,40 +3,37 @@
 -- whole walk come to. How the walk goes on is `cuts`'s law. A word there is one token, and if it has found its place the rest goes on behind it; where the
 -- walk ends, or the book is damaged, or there is no place, nothing follows.
 -- Assumes nothing.
+use Rattle.std.specs.Prelude.{Result, Ok, Err}
 use Prim.Native.Nat.{ℕ, ◌+◌, ◌≤◌, ◌<◌}
 use mathlib.Core.List.{List, [], ◌∷◌}
-use mathlib.Core.Bool.{true, false, cond}
+use mathlib.Core.Bool.{cond}
 use mathlib.Core.Path.{◌≡◌, refl, sym, ap, ◌∙◌}
 use native.Mathlib.Omega.{arith}
 use lib.ListN.{length, get_or, take, drop}
 use lib.Seq.{length-take-le}
+use Rattle.std.specs.Prelude.{Ok, Err, Some, None}
 use Rattle.trie.specs.declared.ParentRef.{ParentRef}
 use Rattle.trie.specs.declared.ParentRef.TheVariants.{Root}
-use Rattle.trie.specs.declared.Step.{Step}
-use Rattle.trie.specs.declared.Step.TheVariants.{At, Nothing, Damaged}
-use Rattle.trie.specs.declared.WordNumber.{WordNumber}
-use Rattle.trie.specs.declared.WordNumber.TheVariants.{NoWord, Record, Bad}
-use Rattle.trie.specs.Trie.{SlotTable, tested_step, word_at, trie_of}
-use Rattle.book.specs.declared.Outcome.TheVariants.{Done}
-use Rattle.book.specs.declared.Outcome.TheVariants as Outcome
-use Rattle.book.specs.Returns.{Book, is_done}
+use Rattle.trie.specs.Trie.{SlotTable, tested_step, word_at, trie_of, Step, WordNumber, damage}
+use Rattle.book.specs.Returns.{Book}
+use Rattle.book.specs.declared.Refusal.TheVariants as Refusal
 use Rattle.book.specs.Prefixes.{Edge, Walked, ended, broken, words_from}
-use Rattle.cuts.specs.declared.Cut.{Cut}
+use Rattle.cuts.specs.declared.CutError.{CutError}
 use Rattle.cuts.specs.Slices.{SeenAs, Placed}
 use Rattle.cuts.specs.Tokens.{span, Base, Written, written}
 use Rattle.cuts.specs.Cuts.{CutAnswer, answer, cut_answer, and_then, put_spans, spans_of}
-use Rattle.cuts.proofs.Sequence.{goes_on, stops, then_after, put_then}
+use Rattle.cuts.proofs.Sequence.{cut_goes_on, cut_stops, then_after, put_then}
 use Rattle.cuts.proofs.Walks.{Walk, at_root, at_end, at_nothing, at_damage, rest, on_from, past, at_bad, at_word}
 use Rattle.words_at.specs.Walks.{put_walk}
 
 -- ---- what a walk met, put into the token area
 
 module _ (base : Base) (cs : List ℕ) (at : ℕ) where
-  put_ended : (w : Written) → put_walk base cs at w ended ≡ answer Done w
+  put_ended : (w : Written) → put_walk base cs at w ended ≡ answer (Ok tt) w
   unfolding put_walk put_spans
   put_ended w = refl
 
-  put_broken : (w : Written) → put_walk base cs at w broken ≡ answer Outcome.Damaged w
+  put_broken : (w : Written) → put_walk base cs at w broken ≡ answer (Err Refusal.Damaged) w
   unfolding put_walk put_spans
   put_broken w = refl
 
@@ -46,7 +43,7 @@ module _ (base : Base) (cs : List ℕ) (at : ℕ) where
       ≡ and_then (put_spans base cs w (span at e.end ∷ [])) (λ v. put_walk base cs at v walk)
   unfolding put_walk
   put_met w e walk =
-      let last : Written → CutAnswer = λ v. cond walk.damaged (answer Outcome.Damaged v) (answer Done v) in
+      let last : Written → CutAnswer = λ v. cond walk.damaged (answer (Err Refusal.Damaged) v) (answer (Ok tt) v) in
       ap (λ (a : CutAnswer). and_then a last) (put_then base cs w (span at e.end) (spans_of at walk.edges))
       ∙ then_after (put_spans base cs w (span at e.end ∷ [])) (λ v. put_spans base cs v (spans_of at walk.edges)) last
 
@@ -89,44 +86,44 @@ module _ {roots slots : List ℕ} {used : ℕ} {chars offsets : List ℕ}
   Ensured a = (b : Book) (site : Base) → Seen b → Placed site base cs offsets → a ≡ put_walk site cs at (written count₀ tokens₀) (words_from b at (drop at cs))
 
   -- nothing more is met
-  by_end : ((b : Book) → Seen b → ComesTo chars offsets n at base tokens₀ count₀ tokens count b ended) → Ensured (answer Done (written count tokens))
+  by_end : ((b : Book) → Seen b → ComesTo chars offsets n at base tokens₀ count₀ tokens count b ended) → Ensured (answer (Ok tt) (written count tokens))
   by_end met b site seen known = sym (put_ended site cs at (written count tokens)) ∙ met b seen site known
 
   -- damage is next
   by_damage : ((b : Book) → Seen b → ComesTo chars offsets n at base tokens₀ count₀ tokens count b broken)
-      → Ensured (answer Outcome.Damaged (written count tokens))
+      → Ensured (answer (Err Refusal.Damaged) (written count tokens))
   by_damage met b site seen known = sym (put_broken site cs at (written count tokens)) ∙ met b seen site known
 
   -- the block ends
-  pub ends_here : n ≤ next → Ensured (answer Done (written count tokens))
+  pub ends_here : n ≤ next → Ensured (answer (Ok tt) (written count tokens))
   ends_here beyond = by_end (at_end here.walk long beyond)
 
   -- there is a character, and its step is taken
   module _ {r : Step} (more : next < n)
       (step : r ≡ tested_step (trie_of roots slots) place (get_or chars next 0)) where
     -- no step leads on
-    pub ends_nothing : r ≡ Nothing → Ensured (answer Done (written count tokens))
+    pub ends_nothing : r ≡ Ok None → Ensured (answer (Ok tt) (written count tokens))
     ends_nothing e = by_end (at_nothing here.walk long more step e)
 
     -- a probe has no end
-    pub ends_damaged : r ≡ Damaged → Ensured (answer Outcome.Damaged (written count tokens))
+    pub ends_damaged : r ≡ Err damage → Ensured (answer (Err Refusal.Damaged) (written count tokens))
     ends_damaged e = by_damage (at_damage here.walk long more step e)
 
     -- the step leads to a place, and the word number there is read
-    module _ {q : ParentRef} (stepped : r ≡ At q) {number : WordNumber}
+    module _ {q : ParentRef} (stepped : r ≡ Ok (Some q)) {number : WordNumber}
         (read : number ≡ word_at used (trie_of roots slots) q) where
       -- a bad word number
-      pub ends_bad : number ≡ Bad → Ensured (answer Outcome.Damaged (written count tokens))
+      pub ends_bad : number ≡ Err damage → Ensured (answer (Err Refusal.Damaged) (written count tokens))
       ends_bad e = by_damage (at_bad here.walk long more step stepped read e)
 
       -- no word ends there
       pub goes_past : {shift : ℕ} → SlotTable (length slots) shift
-          → number ≡ NoWord
+          → number ≡ Ok None
           → Walking roots slots used chars offsets n at base tokens₀ count₀ tokens count q (next + 1)
       goes_past allowed e = record { walk = past here.walk long more step stepped read allowed e; long = here.long }
 
       -- a word ends there, and `emit_span` answers its token with `put`
-      module _ {k : ℕ} (word : number ≡ Record k) (put : Cut) (after : List ℕ)
+      module _ {k : ℕ} (word : number ≡ Ok (Some k)) (put : Result ℕ CutError) (after : List ℕ)
           (emitted : (site : Base) (chars' : List ℕ) → Placed site base chars' offsets → next + 1 ≤ length chars'
           → cut_answer put after ≡ put_spans site chars' (written count tokens) (span at (next + 1) ∷ [])) where
         -- what the walk on from the word's place meets
@@ -144,19 +141,19 @@ module _ {roots slots : List ℕ} {used : ℕ} {chars offsets : List ℕ}
             ∙ at_word here.walk long more step stepped read word b seen site known
 
         -- the token finds no place
-        pub ends_full : is_done put.outcome ≡ false → Ensured (cut_answer put after)
+        pub ends_full : {e : CutError} → put ≡ Err e → Ensured (cut_answer (Err e) after)
         ends_full other b site seen known =
-            sym (stops (cut_answer put after) (λ v. put_walk site cs at v (onward b)) other) ∙ with_rest b site seen known
+            sym (cut_stops after (λ v. put_walk site cs at v (onward b)) other) ∙ with_rest b site seen known
 
         -- the token is written
         pub goes_behind : {shift : ℕ} → SlotTable (length slots) shift
-            → is_done put.outcome ≡ true
+            → {m : ℕ} → put ≡ Ok m
             → length after ≡ length tokens
-            → Walking roots slots used chars offsets n at base tokens₀ count₀ after put.count q (next + 1)
+            → Walking roots slots used chars offsets n at base tokens₀ count₀ after m q (next + 1)
         goes_behind allowed done kept =
             record {
               walk =
                   on_from here.walk long more step stepped allowed
-                  (λ b seen site known. sym (goes_on (cut_answer put after) (λ v. put_walk site cs at v (onward b)) done) ∙ with_rest b site seen known);
+                  (λ b seen site known. sym (cut_goes_on after (λ v. put_walk site cs at v (onward b)) done) ∙ with_rest b site seen known);
               long = kept ∙ here.long;
             }

@@ -1,16 +1,15 @@
 -- `answer_cut::put_answer` meets its contract: each kind by its call. Assumes nothing.
-use native.Mathlib.Omega.{arith}
-use Rattle.answer_cut.proofs.ByKind.{is_no_frame, cut_answered, cut_all_answered, search_answered, no_frame_answered}
+use Rattle.answer_cut.proofs.ByKind.{cut_answered, cut_all_answered, search_answered, no_frame_answered}
 use Rattle.answer_cut.proofs.put_answer.Goals as goal
 
-pub returns-in-Cut : goal.returns-in-Cut
-returns-in-Cut c = record { put = cut_answered _ _ _ _ _ _ _ c.in-Cut.is c.put_tokenize.ensures.put; upper_bound = c.put_tokenize.ensures.upper_bound }
+pub returns-in-Plain-clause-put : goal.returns-in-Plain-clause-put
+returns-in-Plain-clause-put c = cut_answered _ _ _ _ _ _ _ c.in-Some.is c.in-Plain.is c.put_tokenize.ensures.put
 
-pub returns-in-CutAll : goal.returns-in-CutAll
-returns-in-CutAll c = record { put = cut_all_answered _ _ _ _ _ _ _ c.in-CutAll.is c.put_cut_all.ensures.put; upper_bound = c.put_cut_all.ensures.upper_bound }
+pub returns-in-All-clause-put : goal.returns-in-All-clause-put
+returns-in-All-clause-put c = cut_all_answered _ _ _ _ _ _ _ c.in-Some.is c.in-All.is c.put_cut_all.ensures.put
 
-pub returns-in-CutForSearch : goal.returns-in-CutForSearch
-returns-in-CutForSearch c = record { put = search_answered _ _ _ _ _ _ _ c.in-CutForSearch.is c.put_tokenize-in-CutForSearch.ensures.put; upper_bound = c.put_tokenize-in-CutForSearch.ensures.upper_bound }
+pub returns-in-Search-clause-put : goal.returns-in-Search-clause-put
+returns-in-Search-clause-put c = search_answered _ _ _ _ _ _ _ c.in-Some.is c.in-Search.is c.put_tokenize-in-Search.ensures.put
 
-pub returns-in_default : goal.returns-in_default
-returns-in_default c = record { put = no_frame_answered _ _ _ _ _ _ _ (is_no_frame _ c.in_default.not-Cut c.in_default.not-CutAll c.in_default.not-CutForSearch c.requires.1) c.put_no_frame.ensures.put; upper_bound = omega (arith, c.put_no_frame.ensures.value) }
+pub returns-in_default-clause-put : goal.returns-in_default-clause-put
+returns-in_default-clause-put c = no_frame_answered _ _ _ _ _ _ _ c.in_default.is c.put_no_frame.ensures.put

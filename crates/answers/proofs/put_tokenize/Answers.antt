@@ -2,5 +2,5 @@
 use Rattle.answers.proofs.Answers.{put_by}
 use Rattle.answers.proofs.put_tokenize.Goals as goal
 
-pub returns : goal.returns
-returns c = record { put = put_by _ _ c.tokenize-cut.ensures.tokens_value _ _ _ _ c.put_cut.ensures.put; upper_bound = c.put_cut.ensures.upper_bound }
+pub returns-clause-put : goal.returns-clause-put
+returns-clause-put c = put_by _ _ c.tokenize-cut.ensures.tokens_value _ _ _ _ c.put_cut.ensures.put

@@ -4,15 +4,17 @@
 -- splitter's `start`, `has_next` and
 -- `advance` answer.
 -- Assumes nothing.
-use mathlib.Core.Path.{refl, sym, ◌∙◌}
+use Rattle.std.specs.Prelude.{Err}
+use Rattle.std.proofs.Common.{rules}
+use mathlib.Core.Path.{◌≡◌, refl, sym, ◌∙◌}
 use Prim.Native.Nat.{◌-◌, ◌≤◌, ◌<◌}
 use native.Mathlib.Omega.{arith}
 use lib.ListN.{length}
-use borrow.Author.Tests.{ltb-true, ltb-false, not-true, not-false}
+use borrow.Author.Tests.{ltb-true, ltb-false}
 use Rattle.splitter.proofs.Cutting.{run_within, run_in_text, ends_here, ends_stopped, goes_behind}
 use Rattle.blocks.proofs.Sentences.{begins, of_kind}
 use Rattle.blocks.proofs.cut_blocks.Goals as goal
-use Rattle.blocks.proofs.cut_blocks.Goals.{After-loop-plan, In-loop-plan}
+use Rattle.blocks.proofs.cut_blocks.Goals.{After-from_residual, After-loop-plan, In-loop-plan}
 
 pub loop-plan-init : goal.loop-plan-init
 loop-plan-init c = (
@@ -43,8 +45,8 @@ pub next_recording-run-requires : goal.next_recording-run-requires
 next_recording-run-requires c = let work = c.requires.work_fits in
     let l = c.loop-plan.invariant in record { at_in_bounds = (before_end (goal.at.next_recording-run-requires c).In-loop-plan, c.requires.sentence_len_bound.0, l.1.well_formed, l.1.few_units); at_in_bounds_2 = (omega (arith, l.0, l.1.counted, work), omega (arith, l.0, l.1.counted, work)) }
 
-pub cut_block-cut-requires : goal.cut_block-cut-requires
-cut_block-cut-requires c = let pre = c.requires in
+pub cut_block-requires : goal.cut_block-requires
+cut_block-requires c = let pre = c.requires in
     let work = pre.work_fits in
     let long = c.loop-plan.invariant.0 in
     let within = run_within c.loop-plan.invariant.1 c.next_recording-run.ensures in record {
@@ -64,55 +66,14 @@ cut_block-cut-requires c = let pre = c.requires in
       room_in_bounds = (omega (arith, long, pre.room_in_bounds), omega (arith, long, pre.room_in_bounds), of_kind c.next_recording-run.ensures);
     }
 
-pub shape_of-chars-then-not-is_done : goal.shape_of-chars-then-not-is_done
-shape_of-chars-then-not-is_done c =
-    let run = c.next_recording-run.auto in
-    run.chars ∙ c.loop-plan.invariant.0.long_chars
+refused_as : (c : goal.After-from_residual) → c.from_residual.result ≡ Err c.in_err-count.field-0.0
+refused_as c = search rules
 
-pub shape_of-offsets-then-not-is_done : goal.shape_of-offsets-then-not-is_done
-shape_of-offsets-then-not-is_done c =
-    let run = c.next_recording-run.auto in
-    run.offsets ∙ c.loop-plan.invariant.0.long_offsets
-
-pub shape_of-starts-then-not-is_done : goal.shape_of-starts-then-not-is_done
-shape_of-starts-then-not-is_done c =
-    let areas = c.cut_block-cut.auto in
-    areas.starts ∙ c.loop-plan.invariant.0.long_starts
-
-pub shape_of-scores-then-not-is_done : goal.shape_of-scores-then-not-is_done
-shape_of-scores-then-not-is_done c =
-    let areas = c.cut_block-cut.auto in
-    areas.scores ∙ c.loop-plan.invariant.0.long_scores
-
-pub shape_of-ends-then-not-is_done : goal.shape_of-ends-then-not-is_done
-shape_of-ends-then-not-is_done c =
-    let areas = c.cut_block-cut.auto in
-    areas.ends ∙ c.loop-plan.invariant.0.long_ends
-
-pub shape_of-records-then-not-is_done : goal.shape_of-records-then-not-is_done
-shape_of-records-then-not-is_done c =
-    let areas = c.cut_block-cut.auto in
-    areas.records ∙ c.loop-plan.invariant.0.long_records
-
-pub shape_of-edge_ends-then-not-is_done : goal.shape_of-edge_ends-then-not-is_done
-shape_of-edge_ends-then-not-is_done c =
-    let areas = c.cut_block-cut.auto in
-    areas.edge_ends ∙ c.loop-plan.invariant.0.long_edge_ends
-
-pub shape_of-edge_records-then-not-is_done : goal.shape_of-edge_records-then-not-is_done
-shape_of-edge_records-then-not-is_done c =
-    let areas = c.cut_block-cut.auto in
-    areas.edge_records ∙ c.loop-plan.invariant.0.long_edge_records
-
-pub shape_of-tokens-then-not-is_done : goal.shape_of-tokens-then-not-is_done
-shape_of-tokens-then-not-is_done c =
-    let areas = c.cut_block-cut.auto in
-    areas.tokens ∙ c.loop-plan.invariant.0.long_tokens
-
-pub returns-then-not-is_done : goal.returns-then-not-is_done
-returns-then-not-is_done c =
-    ends_stopped c.loop-plan.invariant.1 c.next_recording-run.ensures c.cut_block-cut.result _ c.cut_block-cut.ensures
-    (sym c.is_done.ensures ∙ c.if-not-is_done.true)
+pub returns-in_err-count : goal.returns-in_err-count
+returns-in_err-count c =
+    rw (refused_as c)
+    (ends_stopped c.loop-plan.invariant.1 c.next_recording-run.ensures c.cut_block.result _ c.cut_block.ensures
+    c.in_err-count.was)
 
 pub overflow_cast-base : goal.overflow_cast-base
 overflow_cast-base c =
@@ -131,7 +92,7 @@ pub loop-plan-preserved : goal.loop-plan-preserved
 loop-plan-preserved c =
     let l = c.loop-plan.invariant in
     let run = c.next_recording-run.auto in
-    let areas = c.cut_block-cut.auto in (
+    let areas = c.cut_block.auto in (
       record {
         long_chars = run.chars ∙ l.0.long_chars;
         long_offsets = run.offsets ∙ l.0.long_offsets;
@@ -143,36 +104,9 @@ loop-plan-preserved c =
         long_edge_records = areas.edge_records ∙ l.0.long_edge_records;
         long_tokens = areas.tokens ∙ l.0.long_tokens;
       },
-      goes_behind l.1 c.next_recording-run.ensures c.cut_block-cut.result _ c.cut_block-cut.ensures
-          (sym c.is_done.ensures ∙ c.if-not-is_done.false) c.advance-at.ensures,
+      goes_behind l.1 c.next_recording-run.ensures c.cut_block.result _ c.cut_block.ensures
+          c.in_ok-count.was c.advance-at.ensures,
     )
-
-pub shape_of-chars : goal.shape_of-chars
-shape_of-chars c = c.loop-plan.invariant.0.long_chars
-
-pub shape_of-offsets : goal.shape_of-offsets
-shape_of-offsets c = c.loop-plan.invariant.0.long_offsets
-
-pub shape_of-starts : goal.shape_of-starts
-shape_of-starts c = c.loop-plan.invariant.0.long_starts
-
-pub shape_of-scores : goal.shape_of-scores
-shape_of-scores c = c.loop-plan.invariant.0.long_scores
-
-pub shape_of-ends : goal.shape_of-ends
-shape_of-ends c = c.loop-plan.invariant.0.long_ends
-
-pub shape_of-records : goal.shape_of-records
-shape_of-records c = c.loop-plan.invariant.0.long_records
-
-pub shape_of-edge_ends : goal.shape_of-edge_ends
-shape_of-edge_ends c = c.loop-plan.invariant.0.long_edge_ends
-
-pub shape_of-edge_records : goal.shape_of-edge_records
-shape_of-edge_records c = c.loop-plan.invariant.0.long_edge_records
-
-pub shape_of-tokens : goal.shape_of-tokens
-shape_of-tokens c = c.loop-plan.invariant.0.long_tokens
 
 pub returns : goal.returns
 returns c = ends_here c.loop-plan.invariant.1 (behind_end c)

@@ -1,7 +1,7 @@
--- `calc::best_of` meets its contract. The loop's invariant is `Scanned`, and the measure is the number of edges left. What is required of each place
--- says that an edge's record and its end stand within the slices that they index.
+-- `calc::best_of` meets its contract. The loop's invariant is `Scanned`. What is required of each place says that an edge's record and its end stand
+-- within the slices that they index.
 -- Assumes nothing.
-use Prim.Native.Nat.{◌-◌, ◌<◌}
+use Prim.Native.Nat.{◌<◌}
 use native.Mathlib.Omega.{arith}
 use lib.ListN.{length, get_or}
 use Rattle.calc.proofs.Edges.{scan_starts, scan_edge, scan_ends}

@@ -1,9 +1,5 @@
-use Prim.Native.Nat.{◌-◌}
 use Rattle.calc.proofs.Edges.{Scanned}
 use Rattle.calc.proofs.best_of.Given as goal
 
 abbrev pub invariant-loop-place : goal.invariant-loop-place
 invariant-loop-place l = Scanned l.edge_ends l.edge_records l.logarithms l.scores l.log_total l.from l.to l.choice l.place
-
-abbrev pub decreases-loop-place : goal.decreases-loop-place
-decreases-loop-place l = l.to - l.place

@@ -1,4 +1,3 @@
-use Prim.Native.Nat.{◌-◌}
 use mathlib.Core.Path.{◌≡◌}
 use lib.ListN.{length}
 use Rattle.calc.proofs.Positions.{Written}
@@ -9,6 +8,3 @@ invariant-loop-i l = (length l.scores ≡ length l.initial.scores)
     × (length l.ends ≡ length l.initial.ends)
     × (length l.records ≡ length l.initial.records)
     × Written l.starts l.edge_ends l.edge_records l.logarithms l.log_total l.n l.i l.scores l.ends l.records
-
-abbrev pub decreases-loop-i : goal.decreases-loop-i
-decreases-loop-i l = l.i

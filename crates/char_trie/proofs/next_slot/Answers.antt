@@ -1,5 +1,5 @@
 -- `char_trie::next_slot` meets its contract. Assumes nothing.
-use Rattle.trie.proofs.Slots.{next_wraps, next_goes_on}
+use Rattle.trie.proofs.SlotCounts.{next_wraps, next_goes_on}
 use Rattle.char_trie.proofs.next_slot.Goals as goal
 
 pub returns-then-next-n : goal.returns-then-next-n

@@ -8,14 +8,14 @@ use Rattle.char_trie.proofs.probe.Goals as goal
 pub index-i-requires : goal.index-i-requires
 index-i-requires c = search shift_fits
 
-pub loop-shift-init : goal.loop-shift-init
-loop-shift-init c = search (start_below, slots_left, probe_start)
+pub loop-numbers-init : goal.loop-numbers-init
+loop-numbers-init c = search (start_below, slots_left, probe_start)
 
-pub offset_bounds-slots-i : goal.offset_bounds-slots-i
-offset_bounds-slots-i c = search (rules, key_inside)
+pub offset_bounds-numbers-i : goal.offset_bounds-numbers-i
+offset_bounds-numbers-i c = search (rules, key_inside)
 
-pub bounds-slots-i : goal.bounds-slots-i
-bounds-slots-i c = search key_inside
+pub bounds-numbers-i : goal.bounds-numbers-i
+bounds-numbers-i c = search key_inside
 
 pub returns-then-stored-key : goal.returns-then-stored-key
 returns-then-stored-key c = search probe_found
@@ -26,8 +26,8 @@ returns-then-stored-eq0 c = search probe_empty
 pub returns-then-left-eq0 : goal.returns-then-left-eq0
 returns-then-left-eq0 c = search probe_endless
 
-pub loop-shift-smaller : goal.loop-shift-smaller
-loop-shift-smaller c = omega arith
+pub loop-numbers-smaller : goal.loop-numbers-smaller
+loop-numbers-smaller c = omega arith
 
-pub loop-shift-preserved : goal.loop-shift-preserved
-loop-shift-preserved c = search (next_is_slot, probe_on, arith)
+pub loop-numbers-preserved : goal.loop-numbers-preserved
+loop-numbers-preserved c = search (next_is_slot, probe_on, arith)

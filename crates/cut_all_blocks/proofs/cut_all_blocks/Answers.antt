@@ -2,15 +2,17 @@
 -- left. A turn and each return is a law of `splitter`'s `Cutting`, over what `next_recording` ensures, and then `cut_all_tokens` or `cut_all_unmatched`
 -- (`Blocks`); where the loop stands is what the splitter's `start`, `has_next` and `advance` answer.
 -- Assumes nothing.
+use Rattle.std.specs.Prelude.{Err}
+use Rattle.std.proofs.Common.{rules}
 use Prim.Native.Nat.{◌≤◌, ◌<◌}
-use mathlib.Core.Path.{refl, sym, ◌∙◌}
+use mathlib.Core.Path.{◌≡◌, refl, sym, ◌∙◌}
 use native.Mathlib.Omega.{arith}
 use lib.ListN.{length, take}
 use borrow.Author.Tests.{ltb-true, ltb-false}
 use Rattle.splitter.proofs.Cutting.{run_within, run_in_text, ends_here, ends_stopped, goes_behind}
 use Rattle.cut_all_blocks.proofs.Blocks.{begins, BlockCut, as_answered, matched_cut, unmatched_cut}
 use Rattle.cut_all_blocks.proofs.cut_all_blocks.Goals as goal
-use Rattle.cut_all_blocks.proofs.cut_all_blocks.Goals.{After-loop-chars, In-loop-chars, Joined-run, then-run, else-run}
+use Rattle.cut_all_blocks.proofs.cut_all_blocks.Goals.{After-from_residual, After-loop-chars, In-loop-chars, Joined-run, then-run, else-run}
 
 -- the block that is cut, of the class or not
 block : (c : goal.Joined-run)
@@ -46,7 +48,6 @@ next_recording-run-requires c = let room = c.requires.sentence_in_bounds in
 
 pub cut_all_tokens-cut-requires : goal.cut_all_tokens-cut-requires
 cut_all_tokens-cut-requires c = let recorded = c.next_recording-run.ensures in record {
-  slot_table = c.requires.slot_table;
   n_in_bounds = (
     omega (arith, recorded.fits),
     omega (arith, run_within c.loop-chars.invariant.1 recorded, c.loop-chars.invariant.0, c.requires.sentence_in_bounds, c.next_recording-run.auto),
@@ -63,22 +64,14 @@ cut_all_unmatched-cut-requires c =
       run_in_text c.loop-chars.invariant.1 recorded,
     )
 
-pub shape_of-chars-then-not-is_done : goal.shape_of-chars-then-not-is_done
-shape_of-chars-then-not-is_done c =
-    c.next_recording-run.auto.chars ∙ c.loop-chars.invariant.0.long_chars
+refused_as : (c : goal.After-from_residual) → c.from_residual.result ≡ Err c.in_err-count.field-0.0
+refused_as c = search rules
 
-pub shape_of-offsets-then-not-is_done : goal.shape_of-offsets-then-not-is_done
-shape_of-offsets-then-not-is_done c =
-    c.next_recording-run.auto.offsets ∙ c.loop-chars.invariant.0.long_offsets
-
-pub shape_of-tokens-then-not-is_done : goal.shape_of-tokens-then-not-is_done
-shape_of-tokens-then-not-is_done c =
-    (block (goal.at.shape_of-tokens-then-not-is_done c).Joined-run).kept ∙ c.loop-chars.invariant.0.long_tokens
-
-pub returns-then-not-is_done : goal.returns-then-not-is_done
-returns-then-not-is_done c =
-    ends_stopped c.loop-chars.invariant.1 c.next_recording-run.ensures c.if-run.cut _ (block (goal.at.returns-then-not-is_done c).Joined-run).same
-    (sym c.is_done.ensures ∙ c.if-not-is_done.true)
+pub returns-in_err-count : goal.returns-in_err-count
+returns-in_err-count c =
+    rw (refused_as c)
+    (ends_stopped c.loop-chars.invariant.1 c.next_recording-run.ensures c.if-run.cut _ (block (goal.at.returns-in_err-count c).Joined-run).same
+    c.in_err-count.was)
 
 pub overflow_cast-base : goal.overflow_cast-base
 overflow_cast-base c =
@@ -101,7 +94,7 @@ loop-chars-preserved c =
         long_tokens = (block (goal.at.loop-chars-preserved c).Joined-run).kept ∙ l.0.long_tokens;
       },
       goes_behind l.1 c.next_recording-run.ensures c.if-run.cut _ (block (goal.at.loop-chars-preserved c).Joined-run).same
-          (sym c.is_done.ensures ∙ c.if-not-is_done.false) c.advance-at.ensures,
+          c.in_ok-count.was c.advance-at.ensures,
     )
 
 pub returns : goal.returns

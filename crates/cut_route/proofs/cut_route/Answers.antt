@@ -1,8 +1,9 @@
 -- `cut_route::cut_route` meets its contract. The loop's invariant is `Putting` of what the tokens bring, and each turn takes a run of route steps of one
 -- ASCII letter or digit, or one
 -- other step. Assumes nothing.
-use mathlib.Core.List.{[]}
-use mathlib.Core.Path.{sym, ap, ◌∙◌}
+use Rattle.std.specs.Prelude.{Err}
+use Rattle.std.proofs.Common.{rules}
+use mathlib.Core.Path.{◌≡◌, ap, ◌∙◌}
 use native.Mathlib.Omega.{arith}
 use lib.ListN.{take}
 use Rattle.route.specs.Slices.{rows_of}
@@ -12,7 +13,7 @@ use Rattle.cut_route.specs.Routes.{tokens_by}
 use Rattle.cut_route.proofs.Modes.{none_by, turn_by}
 use Rattle.cut_route.proofs.Routes.{route_from, whole_route, route_end, letters, other_character, word}
 use Rattle.cut_route.proofs.cut_route.Goals as goal
-use Rattle.cut_route.proofs.cut_route.Goals.{Joined-y-x, then-y-x+then-is_ascii_alphanumeric, then-y-x+else-is_ascii_alphanumeric, else-y-x}
+use Rattle.cut_route.proofs.cut_route.Goals.{After-from_residual, Joined-y-x, then-y-x+then-is_ascii_alphanumeric, then-y-x+else-is_ascii_alphanumeric, else-y-x}
 
 -- where the span ends, by the route's step and the first character's class
 turn : (c : goal.Joined-y-x)
@@ -33,8 +34,8 @@ turn c =
 pub loop-x-init : goal.loop-x-init
 loop-x-init c records logarithms = begins _ _ _ _ _ _ _
 
-pub emit_token-put-requires : goal.emit_token-put-requires
-emit_token-put-requires c = let t = turn (goal.at.emit_token-put-requires c).Joined-y-x in
+pub emit_token-requires : goal.emit_token-requires
+emit_token-requires c = let t = turn (goal.at.emit_token-requires c).Joined-y-x in
     let pre = c.requires in record {
       x_le_y = (
         omega (arith, t.forward),
@@ -48,18 +49,18 @@ emit_token-put-requires c = let t = turn (goal.at.emit_token-put-requires c).Joi
 
 -- ---- the places of a turn: the call that wrote, the end of its token, and the loop's head
 
-pub shape_of-tokens-then-not-is_done : goal.shape_of-tokens-then-not-is_done
-shape_of-tokens-then-not-is_done c =
-    c.emit_token-put.auto.tokens ∙ (c.loop-x.invariant [] []).long
+refused_as : (c : goal.After-from_residual) → c.from_residual.result ≡ Err c.in_err-count.field-0.0
+refused_as c = search rules
 
-pub returns-then-not-is_done : goal.returns-then-not-is_done
-returns-then-not-is_done c place route records logarithms known has_ends =
+pub returns-in_err-count : goal.returns-in_err-count
+returns-in_err-count c place route records logarithms known has_ends =
     let args = c.args in
-    refused _ _ _ _ _ _ _ (c.loop-x.invariant records logarithms) (turn_by _ _ args.mode _ _ _ _ (turn (goal.at.returns-then-not-is_done c).Joined-y-x)) c.emit_token-put.result _
-    (λ here placed. c.emit_token-put.ensures here _ records logarithms (turn (goal.at.returns-then-not-is_done c).Joined-y-x).inside placed)
-    (sym c.is_done.ensures ∙ c.if-not-is_done.true)
+    rw (refused_as c)
+    (refused _ _ _ _ _ _ _ (c.loop-x.invariant records logarithms) (turn_by _ _ args.mode _ _ _ _ (turn (goal.at.returns-in_err-count c).Joined-y-x)) c.emit_token.result _
+    (λ here placed. c.emit_token.ensures here _ records logarithms (turn (goal.at.returns-in_err-count c).Joined-y-x).inside placed)
+    c.in_err-count.was
     _ (ap (tokens_by args.mode (take args.n args.chars.now) (rows_of args.starts.now args.edge_ends.now records logarithms args.n))
-    (whole_route args.chars.now args.ends.now args.n route c.requires.n_in_bounds.0 has_ends)) place known
+    (whole_route args.chars.now args.ends.now args.n route c.requires.n_in_bounds.0 has_ends)) place known)
 
 pub loop-x-smaller : goal.loop-x-smaller
 loop-x-smaller c = omega (arith, turn (goal.at.loop-x-smaller c).Joined-y-x)
@@ -67,13 +68,10 @@ loop-x-smaller c = omega (arith, turn (goal.at.loop-x-smaller c).Joined-y-x)
 pub loop-x-preserved : goal.loop-x-preserved
 loop-x-preserved c records logarithms =
     let args = c.args in
-    one_more _ _ _ _ _ _ _ (c.loop-x.invariant records logarithms) (turn_by _ _ args.mode _ _ _ _ (turn (goal.at.loop-x-preserved c).Joined-y-x)) c.emit_token-put.result _
-    (λ here placed. c.emit_token-put.ensures here _ records logarithms (turn (goal.at.loop-x-preserved c).Joined-y-x).inside placed)
-    (sym c.is_done.ensures ∙ c.if-not-is_done.false)
-    c.emit_token-put.auto.tokens
-
-pub shape_of-tokens : goal.shape_of-tokens
-shape_of-tokens c = (c.loop-x.invariant [] []).long
+    one_more _ _ _ _ _ _ _ (c.loop-x.invariant records logarithms) (turn_by _ _ args.mode _ _ _ _ (turn (goal.at.loop-x-preserved c).Joined-y-x)) c.emit_token.result _
+    (λ here placed. c.emit_token.ensures here _ records logarithms (turn (goal.at.loop-x-preserved c).Joined-y-x).inside placed)
+    c.in_ok-count.was
+    c.emit_token.auto.tokens
 
 pub returns : goal.returns
 returns c place route records logarithms known has_ends =

@@ -1,4 +1,5 @@
 -- `cut_route::letters_end` meets its contract. The loop's invariant: the steps passed are steps of one ASCII letter or digit. Assumes nothing.
+use mathlib.Core.Path.{◌≡◌}
 use native.Mathlib.Omega.{arith}
 use Rattle.tokens.proofs.Ends.{run_begins, run_on, run_stops, run_ends}
 use Rattle.cut_route.proofs.Letters.{longer_step, letter_step, other_step}
@@ -14,8 +15,8 @@ loop-y-preserved c =
     (letter_step args.chars.now args.ends.now c.loop-y.y c.if-ends-y.false _
     c.is_ascii_alphanumeric.ensures c.if-not-is_ascii_alphanumeric.false)
 
-pub returns-after-loop-y : goal.returns-after-loop-y
-returns-after-loop-y c = run_ends c.loop-y.invariant (omega arith)
+pub returns : goal.returns
+returns c = let there : c.loop-y.y ≡ c.args.n = omega (arith, c.loop-y.invariant.inside) in rw there at (run_ends c.loop-y.invariant (omega arith))
 
 pub returns-then-ends-y : goal.returns-then-ends-y
 returns-then-ends-y c =

@@ -1,17 +1,16 @@
 -- `decision::decide_absent` meets its contract: each case of what the insertion's walk finds is the case of the decision. Assumes nothing.
-use mathlib.Core.Path.{sym, ap, ◌∙◌}
+use mathlib.Core.Path.{sym, ◌∙◌}
 use Prim.Native.Nat.{◌/◌, ◌≤◌}
 use native.Mathlib.Omega.{arith}
 use lib.ListN.{length}
-use Rattle.trie.specs.declared.WordNumber.TheVariants.{NoWord, Record, Bad}
-use Rattle.trie.proofs.Slots.{size}
-use Rattle.walk.specs.declared.Room.{Room}
-use Rattle.walk.specs.declared.Room.TheVariants.{Whole, Partly}
+use Rattle.std.specs.Prelude.{Ok, Err}
+use Rattle.trie.proofs.SlotCounts.{size}
 use Rattle.book.proofs.Sizes.{HeadWithin, head_within}
 use Rattle.trie.specs.SlotCounts.{most_slots}
 use Rattle.decision.proofs.Decisions.{decided_by_room, room_small}
 use Rattle.decision.proofs.decide_absent.Goals as goal
 use Rattle.decision.proofs.decide_absent.Goals.{After-room_for}
+use Rattle.trie.specs.Trie.{damage}
 
 -- ---- the places of the code: the book and the word are lent, and the word is walked, wholly or partly
 
@@ -24,45 +23,19 @@ module _ (c : goal.After-room_for) where
   few_slots = (size _ c.requires.slot_table.slot_count).1
 
 pub decide_new-requires : goal.decide_new-requires
-decide_new-requires c =
-    omega (arith, within (goal.at.decide_new-requires c).After-room_for, few_slots (goal.at.decide_new-requires c).After-room_for, c.requires.slot_table.whole, c.requires.some)
-
-pub decide_new-requires-in-Record : goal.decide_new-requires-in-Record
-decide_new-requires-in-Record c =
-    omega (arith, within (goal.at.decide_new-requires-in-Record c).After-room_for, few_slots (goal.at.decide_new-requires-in-Record c).After-room_for, c.requires.slot_table.whole, c.requires.some)
-
-pub decide_new-requires-in-Partly : goal.decide_new-requires-in-Partly
-decide_new-requires-in-Partly c = omega (
+decide_new-requires c = omega (
   arith,
-  within (goal.at.decide_new-requires-in-Partly c).After-room_for,
-  few_slots (goal.at.decide_new-requires-in-Partly c).After-room_for,
+  within (goal.at.decide_new-requires c).After-room_for,
+  few_slots (goal.at.decide_new-requires c).After-room_for,
   c.requires.slot_table.whole,
   c.requires.some,
-  room_small _ _ _ _ _ (sym c.room_for.ensures ∙ c.in-Partly.is),
+  room_small _ _ _ _ (sym c.room_for.ensures ∙ c.in-Ok.is),
 )
 
-pub returns-in-Damaged : goal.returns-in-Damaged
-returns-in-Damaged c =
-    λ l. decided_by_room _ _ _ Room.Damaged c.requires.some.0 (sym c.in-Damaged.is ∙ c.room_for.ensures)
+pub returns-in_default : goal.returns-in_default
+returns-in_default c =
+    λ l. decided_by_room _ _ _ (Err damage) c.requires.some.0 (sym c.in_default.is ∙ c.room_for.ensures)
 
-pub returns-in-Bad : goal.returns-in-Bad
-returns-in-Bad c =
-    λ l. decided_by_room _ _ _ (Whole Bad) c.requires.some.0
-    (sym (c.in-Whole.is ∙ ap Whole c.in-Bad.is) ∙ c.room_for.ensures)
-
-pub returns-in-NoWord : goal.returns-in-NoWord
-returns-in-NoWord c =
-    λ l. c.decide_new.ensures
-    ∙ decided_by_room _ _ _ (Whole NoWord) c.requires.some.0
-    (sym (c.in-Whole.is ∙ ap Whole c.in-NoWord.is) ∙ c.room_for.ensures)
-
-pub returns-in-Record : goal.returns-in-Record
-returns-in-Record c =
-    λ l. c.decide_new-in-Record.ensures
-    ∙ decided_by_room _ _ _ (Whole (Record _)) c.requires.some.0
-    (sym (c.in-Whole.is ∙ ap Whole c.in-Record.is) ∙ c.room_for.ensures)
-
-pub returns-in-Partly : goal.returns-in-Partly
-returns-in-Partly c =
-    λ l. c.decide_new-in-Partly.ensures ∙ decided_by_room _ _ _ (Partly _ _) c.requires.some.0
-    (sym c.in-Partly.is ∙ c.room_for.ensures)
+pub returns : goal.returns
+returns c =
+    λ l. c.decide_new.ensures ∙ decided_by_room _ _ _ (Ok _) c.requires.some.0 (sym c.in-Ok.is ∙ c.room_for.ensures)

@@ -3,14 +3,14 @@
 use mathlib.Core.Path.{◌≡◌, sym, ◌∙◌}
 use mathlib.Core.Bool.{true}
 use native.Mathlib.Omega.{arith}
-use borrow.Author.Tests.{not-false}
 use lib.ListN.{length}
 use Rattle.trie.specs.Trie.{trie_of}
 use Rattle.book.specs.Areas.{areas_allowed, book_of}
 use Rattle.book.specs.Returns.{sized}
 use Rattle.book.proofs.Areas.{slots_allowed, sized_lent}
 use Rattle.book.proofs.Numbers.{loaded_in_numbers}
-use Rattle.dict.proofs.Loads.{areas_refused, all_loaded}
+use Rattle.book.specs.declared.Refusal.TheVariants.{BadAreas}
+use Rattle.dict.proofs.Loads.{whole, areas_refused, all_loaded}
 use Rattle.dict.proofs.load_dict.Goals as goal
 use Rattle.dict.proofs.load_dict.Goals.{After-is_allowed, Else-not-is_allowed}
 
@@ -18,17 +18,17 @@ use Rattle.dict.proofs.load_dict.Goals.{After-is_allowed, Else-not-is_allowed}
 
 -- the test of the areas is that of the book
 tested : (c : goal.After-is_allowed) → let a = c.args in
-    c.is_allowed.result ≡ sized (book_of a.head (trie_of a.roots.now a.slots.now) a.records.now a.logarithms.now)
+    c.is_allowed.result ≡ sized (book_of a.head.now (trie_of a.roots.now a.slots.now) a.records.now a.logarithms.now)
 tested c =
     let a = c.args in
-    c.is_allowed.ensures ∙ sized_lent a.head a.roots.now a.slots.now a.records.now a.logarithms.now
+    c.is_allowed.ensures ∙ sized_lent a.head.now a.roots.now a.slots.now a.records.now a.logarithms.now
 
 passes : (c : goal.Else-not-is_allowed) → let a = c.args in
     areas_allowed (length a.roots.now) (length a.slots.now) (length a.records.now) (length a.logarithms.now) ≡ true
 passes c = sym c.is_allowed.ensures ∙ c.if-not-is_allowed.false
 
 pub returns-then-not-is_allowed : goal.returns-then-not-is_allowed
-returns-then-not-is_allowed c = let all = loaded_in_numbers (areas_refused _ _ (tested (goal.at.returns-then-not-is_allowed c).After-is_allowed) c.if-not-is_allowed.true) in record { logarithms_value = all.0; line_value = all.1 }
+returns-then-not-is_allowed c = let all = loaded_in_numbers (whole BadAreas) _ (areas_refused _ _ (tested (goal.at.returns-then-not-is_allowed c).After-is_allowed) c.if-not-is_allowed.true) in record { logarithms_value = all.0; line_value = all.1 }
 
 pub shift_of-shift-requires : goal.shift_of-shift-requires
 shift_of-shift-requires c = slots_allowed _ _ _ _ (passes (goal.at.shift_of-shift-requires c).Else-not-is_allowed)
@@ -36,17 +36,5 @@ shift_of-shift-requires c = slots_allowed _ _ _ _ (passes (goal.at.shift_of-shif
 pub load_lines-requires : goal.load_lines-requires
 load_lines-requires c = record { logarithms_value = passes (goal.at.load_lines-requires c).Else-not-is_allowed; shift_value = (c.shift_of-shift.ensures, omega arith) }
 
-pub shape_of-roots : goal.shape_of-roots
-shape_of-roots c = c.load_lines.auto.roots
-
-pub shape_of-slots : goal.shape_of-slots
-shape_of-slots c = c.load_lines.auto.slots
-
-pub shape_of-records : goal.shape_of-records
-shape_of-records c = c.load_lines.auto.records
-
-pub shape_of-logarithms : goal.shape_of-logarithms
-shape_of-logarithms c = c.load_lines.auto.logarithms
-
 pub returns : goal.returns
-returns c = let all = loaded_in_numbers (all_loaded _ _ (tested (goal.at.returns c).After-is_allowed) c.if-not-is_allowed.false (omega arith) c.load_lines.ensures) in record { logarithms_value = all.0; line_value = all.1 }
+returns c = let all = loaded_in_numbers _ _ (all_loaded _ _ (tested (goal.at.returns c).After-is_allowed) c.if-not-is_allowed.false (omega arith) c.load_lines.ensures) in record { logarithms_value = all.0; line_value = all.1 }

@@ -1,7 +1,5 @@
 -- `empties::still_wanted` meets its contract. The loop's invariant: what is still wanted after the slots from the place on is what is wanted after all of them.
 -- Assumes nothing.
-use mathlib.Core.Logic.{⊎_elim}
-use Prim.Native.Nat.{◌-◌}
 use native.Mathlib.Omega.{arith}
 use Rattle.empties.proofs.Empties.{starts, none_wanted, one_found, none_found, all_seen, in_slots, past_slots}
 use Rattle.empties.proofs.still_wanted.Goals as goal
@@ -11,18 +9,6 @@ loop-i-init c = starts _ _
 
 pub returns-then-left-eq0 : goal.returns-then-left-eq0
 returns-then-left-eq0 c = none_wanted _ _ _ _ c.loop-i.invariant c.if-left-eq0.true
-
-pub key_at-requires : goal.key_at-requires
-key_at-requires c = omega arith
-
-pub overflow_sub-left : goal.overflow_sub-left
-overflow_sub-left c = omega arith
-
-pub overflow_add-i : goal.overflow_add-i
-overflow_add-i c = omega arith
-
-pub loop-i-smaller : goal.loop-i-smaller
-loop-i-smaller c = omega arith
 
 pub loop-i-preserved : goal.loop-i-preserved
 loop-i-preserved c =

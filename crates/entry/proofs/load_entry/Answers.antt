@@ -1,7 +1,9 @@
 -- `entry::load_entry` meets its contract: each `return` is the case that the decision says, with the areas as the writes leave them. What the sizes, the test
 -- of the head and the decision promise is said once, of the places of the code after them. Assumes nothing.
+use Rattle.std.specs.Prelude.{Ok, Err}
+use Rattle.std.proofs.Common.{rules}
 use native.Mathlib.Omega.{arith}
-use mathlib.Core.Path.{◌≡◌, sym, ◌∙◌, refl}
+use mathlib.Core.Path.{◌≡◌, sym, ap, ◌∙◌}
 use mathlib.Core.Bool.{false}
 use Prim.Native.Nat.{◌/◌, ◌<◌, ◌≤◌}
 use lib.ListN.{length}
@@ -14,7 +16,7 @@ use Rattle.book.proofs.Areas.{slots_whole, slots_most, slot_table, records_most,
 use Rattle.entry.proofs.Bounds.{Inserts, record_held, room_left}
 use Rattle.entry.proofs.Entering.{head_damaged_lem, refused, replaced_by, inserted_by}
 use Rattle.entry.proofs.load_entry.Goals as goal
-use Rattle.entry.proofs.load_entry.Goals.{After-is_head_damaged, Else-is_head_damaged, In-Insert, In-Replace, Start}
+use Rattle.entry.proofs.load_entry.Goals.{After-from_residual, After-is_head_damaged, Else-is_head_damaged, In-Insert, In-Replace, Start}
 
 -- ---- the places of the code: the book is lent, its head passes the test, the decision is taken, a new word has its record, it is inserted, its record is set
 
@@ -24,33 +26,33 @@ few_records c = (logarithms_same _ _ _ _ c.requires.logarithms_value, records_mo
 
 -- the test of the head, as the code makes it, is the definition's
 head_tested : (c : goal.After-is_head_damaged) → let s = c.args in
-    c.is_head_damaged.result ≡ damaged_head (book_of s.head (trie_of s.roots.now s.slots.now) s.records.now s.logarithms.now)
+    c.is_head_damaged.result ≡ damaged_head (book_of s.head.now (trie_of s.roots.now s.slots.now) s.records.now s.logarithms.now)
 head_tested c =
     let whole = slots_whole _ _ _ _ c.requires.logarithms_value in
     c.is_head_damaged.ensures
-    ∙ damaged_lent c.args.head c.args.roots.now c.args.slots.now c.args.records.now c.args.logarithms.now whole
+    ∙ damaged_lent c.args.head.now c.args.roots.now c.args.slots.now c.args.records.now c.args.logarithms.now whole
 
 -- the head is not damaged, so its numbers are small
 module _ (c : goal.Else-is_head_damaged) where
-  undamaged : head_damaged c.args.head (length c.args.records.now) (length c.args.slots.now / 2) ≡ false
+  undamaged : head_damaged c.args.head.now (length c.args.records.now) (length c.args.slots.now / 2) ≡ false
   undamaged = sym c.is_head_damaged.ensures ∙ c.if-is_head_damaged.false
 
-  within : HeadWithin c.args.head (length c.args.records.now) (length c.args.slots.now / 2)
+  within : HeadWithin c.args.head.now (length c.args.records.now) (length c.args.slots.now / 2)
   within = head_within _ _ _ undamaged
 
 -- a word is replaced in a record that is used
 module _ (c : goal.In-Replace) where
-  held : c.in-Replace.n < c.args.head.records
-  held = record_held _ _ _ _ _ c.decide-decision.ensures c.in-Replace.is
+  held : c.in-Replace.n < c.args.head.now.records
+  held = record_held _ _ _ _ _ c.decide.ensures (c.in_ok-n.was ∙ ap Ok c.in-Replace.is)
 
 -- a word is inserted where there is room
 module _ (c : goal.In-Insert) where
-  room : Inserts c.args.head (length c.args.records.now) (length c.args.slots.now / 2)
+  room : Inserts c.args.head.now (length c.args.records.now) (length c.args.slots.now / 2)
       c.in-Insert.new_slots c.in-Insert.nodes
   room =
       let whole = slots_whole _ _ _ _ c.requires.logarithms_value in
-      room_left c.args.head c.args.roots.now c.args.slots.now c.args.records.now _ _ c.decide-decision.ensures whole
-      c.in-Insert.is
+      room_left c.args.head.now c.args.roots.now c.args.slots.now c.args.records.now _ _ c.decide.ensures whole
+      (c.in_ok-n.was ∙ ap Ok c.in-Insert.is)
 
 pub is_head_damaged-requires : goal.is_head_damaged-requires
 is_head_damaged-requires c = slots_most _ _ _ _ c.requires.logarithms_value
@@ -58,9 +60,9 @@ is_head_damaged-requires c = slots_most _ _ _ _ c.requires.logarithms_value
 pub returns-then-is_head_damaged : goal.returns-then-is_head_damaged
 returns-then-is_head_damaged c = head_damaged_lem _ _ _ _ _ _ c.requires.shift_value.1 (head_tested (goal.at.returns-then-is_head_damaged c).After-is_head_damaged) c.if-is_head_damaged.true
 
-pub decide-decision-requires : goal.decide-decision-requires
-decide-decision-requires c = let pre = c.requires in
-    record { slot_table = slot_table _ _ _ _ pre.logarithms_value _ pre.shift_value.0; slots_value = undamaged (goal.at.decide-decision-requires c).Else-is_head_damaged; some = (pre.shift_value.1, pre.shift_value.2, omega arith, (few_records (goal.at.decide-decision-requires c).Start).1) }
+pub decide-requires : goal.decide-requires
+decide-requires c = let pre = c.requires in
+    record { slot_table = slot_table _ _ _ _ pre.logarithms_value _ pre.shift_value.0; slots_value = undamaged (goal.at.decide-requires c).Else-is_head_damaged; some = (pre.shift_value.1, pre.shift_value.2, omega arith, (few_records (goal.at.decide-requires c).Start).1) }
 
 pub offset_bounds-records-n : goal.offset_bounds-records-n
 offset_bounds-records-n c =
@@ -89,65 +91,35 @@ pub set_record-requires-in-Insert : goal.set_record-requires-in-Insert
 set_record-requires-in-Insert c =
     omega (arith, c.next_record-n.ensures, room (goal.at.set_record-requires-in-Insert c).In-Insert, few_records (goal.at.set_record-requires-in-Insert c).Start)
 
-pub overflow_add-result : goal.overflow_add-result
-overflow_add-result c =
-    omega (arith, room (goal.at.overflow_add-result c).In-Insert, few_records (goal.at.overflow_add-result c).Start)
+pub overflow_add-head : goal.overflow_add-head
+overflow_add-head c =
+    omega (arith, room (goal.at.overflow_add-head c).In-Insert, few_records (goal.at.overflow_add-head c).Start)
 
-pub overflow_add-result-in-Insert : goal.overflow_add-result-in-Insert
-overflow_add-result-in-Insert c =
-    omega (arith, room (goal.at.overflow_add-result-in-Insert c).In-Insert, slots_most _ _ _ _ c.requires.logarithms_value)
+pub overflow_add-head-in-Insert : goal.overflow_add-head-in-Insert
+overflow_add-head-in-Insert c =
+    omega (arith, room (goal.at.overflow_add-head-in-Insert c).In-Insert, slots_most _ _ _ _ c.requires.logarithms_value)
 
-pub overflow_add-result-in-Insert-2 : goal.overflow_add-result-in-Insert-2
-overflow_add-result-in-Insert-2 c = omega (arith, room (goal.at.overflow_add-result-in-Insert-2 c).In-Insert)
+pub overflow_add-head-in-Insert-2 : goal.overflow_add-head-in-Insert-2
+overflow_add-head-in-Insert-2 c = omega (arith, room (goal.at.overflow_add-head-in-Insert-2 c).In-Insert)
 
-pub shape_of-roots-in-Refuse : goal.shape_of-roots-in-Refuse
-shape_of-roots-in-Refuse c = refl
+refused_as : (c : goal.After-from_residual) → c.from_residual.result ≡ Err c.in_err-n.field-0.0
+refused_as c = search rules
 
-pub shape_of-slots-in-Refuse : goal.shape_of-slots-in-Refuse
-shape_of-slots-in-Refuse c = refl
-
-pub shape_of-records-in-Refuse : goal.shape_of-records-in-Refuse
-shape_of-records-in-Refuse c = refl
-
-pub returns-in-Refuse : goal.returns-in-Refuse
-returns-in-Refuse c =
-    refused _ _ _ _ _ _ c.requires.shift_value.1 (head_tested (goal.at.returns-in-Refuse c).After-is_head_damaged) c.if-is_head_damaged.false c.decide-decision.ensures c.in-Refuse.is
-
-pub shape_of-roots-in-Replace : goal.shape_of-roots-in-Replace
-shape_of-roots-in-Replace c = refl
-
-pub shape_of-slots-in-Replace : goal.shape_of-slots-in-Replace
-shape_of-slots-in-Replace c = refl
-
-pub shape_of-records-in-Replace : goal.shape_of-records-in-Replace
-shape_of-records-in-Replace c = c.set_record.auto.records
-
-pub shape_of-logarithms-in-Replace : goal.shape_of-logarithms-in-Replace
-shape_of-logarithms-in-Replace c = c.set_record.auto.logarithms
+pub returns-in_err-n : goal.returns-in_err-n
+returns-in_err-n c =
+    rw (refused_as c)
+    (refused _ _ _ _ _ _ c.requires.shift_value.1 (head_tested (goal.at.returns-in_err-n c).After-is_head_damaged) c.if-is_head_damaged.false c.decide.ensures c.in_err-n.was)
 
 pub returns-in-Replace : goal.returns-in-Replace
 returns-in-Replace c =
     let pre = c.requires in
-    replaced_by _ _ _ _ _ _ pre.shift_value.1 (head_tested (goal.at.returns-in-Replace c).After-is_head_damaged) c.if-is_head_damaged.false c.decide-decision.ensures pre.shift_value.3
-    c.in-Replace.is c.cell_with_frequency-cell.ensures _ c.set_record.ensures.0 _ c.set_record.ensures.1
-    c.replaced.ensures
-
-pub shape_of-roots-in-Insert : goal.shape_of-roots-in-Insert
-shape_of-roots-in-Insert c = c.insert.auto.roots
-
-pub shape_of-slots-in-Insert : goal.shape_of-slots-in-Insert
-shape_of-slots-in-Insert c = c.insert.auto.slots
-
-pub shape_of-records-in-Insert : goal.shape_of-records-in-Insert
-shape_of-records-in-Insert c = c.set_record-in-Insert.auto.records
-
-pub shape_of-logarithms-in-Insert : goal.shape_of-logarithms-in-Insert
-shape_of-logarithms-in-Insert c = c.set_record-in-Insert.auto.logarithms
+    replaced_by _ _ _ _ _ _ pre.shift_value.1 (head_tested (goal.at.returns-in-Replace c).After-is_head_damaged) c.if-is_head_damaged.false c.decide.ensures pre.shift_value.3
+    (c.in_ok-n.was ∙ ap Ok c.in-Replace.is) c.cell_with_frequency-cell.ensures _ c.set_record.ensures.0 _ c.set_record.ensures.1
 
 pub returns-in-Insert : goal.returns-in-Insert
 unfolding characters
 returns-in-Insert c =
     let pre = c.requires in
-    inserted_by _ _ _ _ _ _ pre.shift_value.1 (head_tested (goal.at.returns-in-Insert c).After-is_head_damaged) c.if-is_head_damaged.false c.decide-decision.ensures pre.shift_value.3
-    c.in-Insert.is _ c.next_record-n.ensures _ c.insert.ensures _ c.set_record-in-Insert.ensures.0
+    inserted_by _ _ _ _ _ _ pre.shift_value.1 (head_tested (goal.at.returns-in-Insert c).After-is_head_damaged) c.if-is_head_damaged.false c.decide.ensures pre.shift_value.3
+    (c.in_ok-n.was ∙ ap Ok c.in-Insert.is) _ c.next_record-n.ensures _ c.insert.ensures _ c.set_record-in-Insert.ensures.0
     _ c.set_record-in-Insert.ensures.1

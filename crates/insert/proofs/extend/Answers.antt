@@ -1,14 +1,11 @@
 -- `insert::extend` meets its contract: the loop's invariant, `Extending`, says that the extension still to be made, from the place and the position on, comes
 -- to that of the whole. Assumes nothing.
-use Prim.Native.Nat.{◌-◌}
 use mathlib.Core.Path.{◌∙◌}
 use native.Mathlib.Omega.{arith}
 use Rattle.utf8.proofs.Positions.{inside, value_below}
 use Rattle.insert.proofs.Extensions.{begins, ends, stops, goes_on, still_inside, still_table}
 use Rattle.insert.proofs.extend.Goals as goal
 use Rattle.insert.proofs.extend.Goals.{After-next_char-next}
-
--- ---- the places of the code: the tables are lent, the loop's test is passed, a character is read, its step is made; behind the loop the word is set
 
 pub loop-at-init : goal.loop-at-init
 loop-at-init c =
@@ -26,7 +23,7 @@ shape_of-slots-in_default c = c.new_step-step.auto.slots ∙ c.loop-at.invariant
 
 pub returns-in_default : goal.returns-in_default
 returns-in_default c =
-    stops c.loop-at.invariant c.next_char-next.ensures _ _ c.new_step-step.ensures c.in_default.not-At
+    stops c.loop-at.invariant c.next_char-next.ensures _ _ c.new_step-step.ensures _ c.in_default.is
 
 pub overflow_add-at : goal.overflow_add-at
 overflow_add-at c = omega (arith, inside _ _ _ _ _ c.next_char-next.ensures, (goal.at.overflow_add-at c).After-next_char-next)
@@ -40,7 +37,7 @@ loop-at-smaller c = omega (arith, inside _ _ _ _ _ c.next_char-next.ensures, (go
 pub loop-at-preserved : goal.loop-at-preserved
 loop-at-preserved c =
     goes_on c.loop-at.invariant c.next_char-next.ensures _ _ c.new_step-step.ensures c.new_step-step.auto.roots c.new_step-step.auto.slots c.requires.slot_table
-    c.in-At.is
+    c.in-Ok.is
 
 pub set_word-requires : goal.set_word-requires
 set_word-requires c = record { inside = still_inside c.loop-at.invariant; number_bound = c.requires.s_bound.1 }

@@ -5,16 +5,14 @@ use Rattle.insert.proofs.Sizes.{table_same}
 use Rattle.insert.proofs.Marks.{inserted, not_inserted, place_ready, rest_ready}
 use Rattle.insert.proofs.insert.Goals as goal
 
--- ---- the places of the code: the tables are lent, the steps that are there are marked, and the rest is made
-
 pub returns-in_default : goal.returns-in_default
-returns-in_default c = not_inserted _ _ _ _ _ _ _ c.mark.ensures.slots_value c.in_default.is
+returns-in_default c = not_inserted _ _ _ _ _ _ _ c.mark.ensures.slots_value _ c.in_default.is
 
 pub extend-requires : goal.extend-requires
-extend-requires c = let at = c.in-UpTo.is in
+extend-requires c = let at = c.in-Ok.is in
     let kept = c.mark.auto in
     let ready = c.mark.ensures.ready in
-    let pre = c.requires in record { slot_table = table_same _ _ _ kept.slots pre.slot_table; inside = inside_same _ _ _ _ _ kept.roots kept.slots (place_ready _ _ _ _ ready _ _ at); some = rest_ready _ _ _ _ ready _ _ at; s_bound = pre.s_bound }
+    let pre = c.requires in record { slot_table = table_same _ _ _ kept.slots pre.slot_table; inside = inside_same _ _ _ _ _ kept.roots kept.slots (place_ready _ _ _ _ ready _ at); some = rest_ready _ _ _ _ ready _ at; s_bound = pre.s_bound }
 
 pub shape_of-roots : goal.shape_of-roots
 shape_of-roots c = c.extend.auto.roots ∙ c.mark.auto.roots
@@ -24,4 +22,4 @@ shape_of-slots c = c.extend.auto.slots ∙ c.mark.auto.slots
 
 pub returns : goal.returns
 returns c =
-    inserted _ _ _ _ _ _ _ c.mark.ensures.slots_value _ _ _ c.in-UpTo.is c.extend.ensures
+    inserted _ _ _ _ _ _ _ c.mark.ensures.slots_value _ _ c.in-Ok.is c.extend.ensures

@@ -5,8 +5,6 @@ use Rattle.insert.proofs.NewSteps.{empty_below, new_entry_made, no_empty_slot, n
 use borrow.Author.Rules.{rules}
 use Rattle.insert.proofs.new_step.Goals as goal
 
--- ---- the places of the code: the tables are lent, the step is below the root, its key is known, an empty slot is found, and the bits are set
-
 pub new_root_entry-requires : goal.new_root_entry-requires
 new_root_entry-requires c = has_entry _ _ _ _ c.from_root.ensures c.if-from_root.true
 
@@ -17,17 +15,17 @@ returns-then-from_root c =
 pub key-key-requires : goal.key-key-requires
 key-key-requires c = (node_below _ _ _ c.node_at.ensures, search rules)
 
-pub returns-in_default : goal.returns-in_default
-returns-in_default c =
+pub returns-in_err-i : goal.returns-in_err-i
+returns-in_err-i c =
     no_empty_slot _ _ _ _ _ (c.from_root.ensures _) c.if-from_root.false _ _ c.node_at.ensures c.key-key.ensures _
-    c.first_empty.ensures c.in_default.not-Empty
+    c.first_empty.ensures _ c.in_err-i.was _ c.from_residual.ensures.0
 
 pub new_slot-requires : goal.new_slot-requires
 new_slot-requires c =
     let table = c.requires.slot_table in
-    empty_below _ _ table _ _ _ c.first_empty.ensures c.in-Empty.is _ c.set_bits.auto.slots
+    empty_below _ _ table _ _ _ c.first_empty.ensures c.in_ok-i.was _ c.set_bits.auto.slots
 
 pub returns : goal.returns
 returns c =
     new_slot_made _ _ _ _ _ (c.from_root.ensures _) c.if-from_root.false _ _ c.node_at.ensures c.key-key.ensures _
-    c.first_empty.ensures _ _ _ c.in-Empty.is c.set_bits.ensures (c.new_slot.ensures _)
+    c.first_empty.ensures _ _ _ c.in_ok-i.was c.set_bits.ensures (c.new_slot.ensures _)

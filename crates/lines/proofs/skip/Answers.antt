@@ -1,13 +1,10 @@
 -- `lines::skip` meets its contract. The loop's invariant: the text from the position on is well formed, and the position after what is skipped is still
 -- the one to be answered. Assumes nothing.
-use mathlib.Core.Path.{refl, ◌∙◌}
+use mathlib.Core.Path.{◌∙◌}
 use native.Mathlib.Omega.{arith}
 use Rattle.utf8.proofs.Positions.{inside, still_chars}
 use Rattle.lines.proofs.Fields.{pass, stop, stop_end, alike, unlike}
 use Rattle.lines.proofs.skip.Goals as goal
-
-pub loop-end-init : goal.loop-end-init
-loop-end-init c = (refl, c.requires)
 
 pub returns-then-is_white_space-space : goal.returns-then-is_white_space-space
 returns-then-is_white_space-space c =
@@ -23,7 +20,7 @@ pub loop-end-preserved : goal.loop-end-preserved
 loop-end-preserved c = (
   pass _ _ _ c.loop-end.invariant.1 _ _ _ c.next_char-next.ensures (alike _ _ _ c.is_white_space.ensures c.if-is_white_space-space.false)
       ∙ c.loop-end.invariant.0,
-  search still_chars,
+  still_chars _ _ c.loop-end.invariant.1 _ _ _ c.next_char-next.ensures,
 )
 
 pub returns : goal.returns

@@ -1,12 +1,15 @@
 -- `load_lines::load_lines` meets its contract. The loop's invariant: the areas are as long as they were (`SameLong`), and what the lines from the position
 -- on come to is what the whole text comes to (`Loading`). The measure is what is left of the text, and one for the line's end. Assumes nothing.
-use Prim.Native.Nat.{◌-◌, ◌≤◌}
-use mathlib.Core.Path.{◌∙◌}
+use Rattle.std.specs.Prelude.{Ok, Err}
+use Rattle.std.proofs.Common.{rules}
+use Prim.Native.Nat.{◌+◌, ◌-◌, ◌≤◌}
+use mathlib.Core.Path.{◌≡◌, ◌∙◌}
 use native.Mathlib.Omega.{arith}
 use lib.ListN.{length}
+use Rattle.book.specs.declared.Refusal.{Refusal}
 use Rattle.load_lines.proofs.Loads.{as_long, still_sized, begins, line_inside, line_short, stops, goes_on, ends}
 use Rattle.load_lines.proofs.load_lines.Goals as goal
-use Rattle.load_lines.proofs.load_lines.Goals.{After-line_end-end}
+use Rattle.load_lines.proofs.load_lines.Goals.{After-from_residual, After-line_end-end, In_ok-map_err}
 
 pub loop-at-init : goal.loop-at-init
 loop-at-init c = (as_long _ _ _ _, begins _ _)
@@ -30,8 +33,8 @@ slice_bounds-load_line-start c = omega (arith, inside (goal.at.slice_bounds-load
 pub slice_bounds-load_line-end : goal.slice_bounds-load_line-end
 slice_bounds-load_line-end c = omega (arith, inside (goal.at.slice_bounds-load_line-end c).After-line_end-end)
 
-pub load_line-entered-requires : goal.load_line-entered-requires
-load_line-entered-requires c = let long = c.loop-at.invariant.0 in
+pub load_line-requires : goal.load_line-requires
+load_line-requires c = let long = c.loop-at.invariant.0 in
     let pre = c.requires in record {
       logarithms_value = still_sized long pre.logarithms_value;
       shift_value = (
@@ -41,22 +44,17 @@ load_line-entered-requires c = let long = c.loop-at.invariant.0 in
       );
     }
 
-pub shape_of-roots-then-not-is_done : goal.shape_of-roots-then-not-is_done
-shape_of-roots-then-not-is_done c = c.load_line-entered.auto.roots ∙ c.loop-at.invariant.0.same_roots
+-- a line that entered, and one that was refused
+entered : (c : goal.In_ok-map_err) → c.load_line.result ≡ Ok tt
+entered c = search rules
 
-pub shape_of-slots-then-not-is_done : goal.shape_of-slots-then-not-is_done
-shape_of-slots-then-not-is_done c = c.load_line-entered.auto.slots ∙ c.loop-at.invariant.0.same_slots
+refused : (c : goal.After-from_residual) → (r : Refusal) × (c.load_line.result ≡ Err r) × (c.from_residual.result ≡ Err (record { refusal = r; line = c.loop-at.line + 1 }))
+refused c = search rules
 
-pub shape_of-records-then-not-is_done : goal.shape_of-records-then-not-is_done
-shape_of-records-then-not-is_done c = c.load_line-entered.auto.records ∙ c.loop-at.invariant.0.same_records
-
-pub shape_of-logarithms-then-not-is_done : goal.shape_of-logarithms-then-not-is_done
-shape_of-logarithms-then-not-is_done c = c.load_line-entered.auto.logarithms ∙ c.loop-at.invariant.0.same_logarithms
-
-pub returns-then-not-is_done : goal.returns-then-not-is_done
-returns-then-not-is_done c =
-    stops c.loop-at.invariant.1 c.loop-at-test.true c.line_end-end.ensures c.load_line-entered.ensures
-    c.is_done.ensures c.if-not-is_done.true
+pub returns-in_err-map_err : goal.returns-in_err-map_err
+returns-in_err-map_err c =
+    let (r, e, answers) = refused c in
+    rw answers (stops c.loop-at.invariant.1 c.loop-at-test.true c.line_end-end.ensures c.load_line.ensures e)
 
 pub overflow_add-at : goal.overflow_add-at
 overflow_add-at c =
@@ -68,28 +66,15 @@ loop-at-smaller c = omega (arith, inside (goal.at.loop-at-smaller c).After-line_
 pub loop-at-preserved : goal.loop-at-preserved
 loop-at-preserved c =
     let long = c.loop-at.invariant.0 in
-    let kept = c.load_line-entered.auto in (
+    let kept = c.load_line.auto in (
       record {
         same_roots = kept.roots ∙ long.same_roots;
         same_slots = kept.slots ∙ long.same_slots;
         same_records = kept.records ∙ long.same_records;
         same_logarithms = kept.logarithms ∙ long.same_logarithms;
       },
-      goes_on c.loop-at.invariant.1 c.loop-at-test.true c.line_end-end.ensures c.load_line-entered.ensures
-          c.is_done.ensures c.if-not-is_done.false,
+      goes_on c.loop-at.invariant.1 c.loop-at-test.true c.line_end-end.ensures c.load_line.ensures (entered c),
     )
-
-pub shape_of-roots : goal.shape_of-roots
-shape_of-roots c = c.loop-at.invariant.0.same_roots
-
-pub shape_of-slots : goal.shape_of-slots
-shape_of-slots c = c.loop-at.invariant.0.same_slots
-
-pub shape_of-records : goal.shape_of-records
-shape_of-records c = c.loop-at.invariant.0.same_records
-
-pub shape_of-logarithms : goal.shape_of-logarithms
-shape_of-logarithms c = c.loop-at.invariant.0.same_logarithms
 
 pub returns : goal.returns
 returns c = ends c.loop-at.invariant.1 c.loop-at-test.false

@@ -23,8 +23,8 @@ bounds-roots-i-in-RootEntry c = search (rules, entry_inside)
 pub key_at-requires : goal.key_at-requires
 key_at-requires c = search slot_inside
 
-pub set_bit_u64-key-requires : goal.set_bit_u64-key-requires
-set_bit_u64-key-requires c = search key_bit_below
+pub set_bit-key-requires : goal.set_bit-key-requires
+set_bit-key-requires c = search key_bit_below
 
 pub link_at-requires : goal.link_at-requires
 link_at-requires c = search slot_inside

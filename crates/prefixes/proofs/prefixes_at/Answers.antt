@@ -1,58 +1,66 @@
--- `prefixes::prefixes_at` meets its contract. The loop's invariant is `Walking`, and the measure is the number of characters left. Each way on and each
--- return is a law of `Walks`.
+-- `prefixes::prefixes_at` meets its contract. The loop's invariant is `Walking`. Each way on and each return is a law of `Walks`.
 -- Assumes nothing.
+use mathlib.Core.Path.{◌≡◌, ap, ◌∙◌}
 use native.Mathlib.Omega.{arith}
+use Rattle.std.specs.Prelude.{Ok, Some}
+use Rattle.std.proofs.lemmas.Result.{err_from_is_err_and}
 use Rattle.cuts.proofs.Walks.{next_inside}
 use Rattle.prefixes.proofs.Walks.{begins, ends_here, ends_nothing, ends_damaged, ends_bad, ends_full, goes_on, goes_on_behind, in_use_record}
 use Rattle.prefixes.proofs.prefixes_at.Goals as goal
+use Rattle.prefixes.proofs.prefixes_at.Goals.{In-Some}
+
+-- the step leads to a place
+leads : (c : In-Some) → c.tested_step.result ≡ Ok (Some c.in-Some.child)
+leads c = c.in_ok-child.was ∙ ap Ok c.in-Some.is
 
 pub loop-next-init : goal.loop-next-init
-loop-next-init c = begins _ _ _ _ _ _ _ _ _ _ c.requires.at_lt_n.0
-    c.requires.taken_le_room.0
+loop-next-init c = begins _ _ _ _ _ _ _ _ _ _ c.requires.at_lt_n.0 c.requires.taken_le_room.0
 
-pub tested_step-requires : goal.tested_step-requires
-tested_step-requires c = record { slot_table = c.requires.slot_table; inside = (c.loop-next.invariant.walk.inside, c.requires.at_lt_n.3 _ c.loop-next-test.true) }
+pub returns-in_err-child-clause-walked_at : goal.returns-in_err-child-clause-walked_at
+returns-in_err-child-clause-walked_at c =
+    let p = err_from_is_err_and c.from_residual.result c.from_residual.ensures.1 in
+    rw (p.1, p.2) (ends_damaged c.loop-next.invariant c.requires.at_lt_n.1 c.loop-next-test.true c.tested_step.ensures c.in_err-child.was).0
 
-pub returns-in-Nothing : goal.returns-in-Nothing
-returns-in-Nothing c = let all = ends_nothing c.loop-next.invariant c.requires.at_lt_n.1 c.loop-next-test.true c.tested_step.ensures
-    c.in-Nothing.is in record { walked_at = all.0; kept = all.1 }
-
-pub returns-in-Damaged : goal.returns-in-Damaged
-returns-in-Damaged c = let all = ends_damaged c.loop-next.invariant c.requires.at_lt_n.1 c.loop-next-test.true c.tested_step.ensures c.in-Damaged.is in record { walked_at = all.0; kept = all.1 }
+pub returns-in_default-clause-walked_at : goal.returns-in_default-clause-walked_at
+returns-in_default-clause-walked_at c =
+    (ends_nothing c.loop-next.invariant c.requires.at_lt_n.1 c.loop-next-test.true c.tested_step.ensures (c.in_ok-child.was ∙ ap Ok c.in_default.is)).0
 
 pub word_at-requires : goal.word_at-requires
 word_at-requires c =
     next_inside c.loop-next.invariant.walk c.requires.at_lt_n.1 c.loop-next-test.true c.tested_step.ensures
-    c.in-At.is c.requires.slot_table
+    (leads (goal.at.word_at-requires c).In-Some) c.args.tables.slots.table
 
-pub loop-next-preserved-in-NoWord : goal.loop-next-preserved-in-NoWord
-loop-next-preserved-in-NoWord c =
-    goes_on c.loop-next.invariant c.requires.at_lt_n.1 c.loop-next-test.true c.tested_step.ensures c.in-At.is
-    c.word_at.ensures
-    c.requires.slot_table c.in-NoWord.is
+pub returns-in_err-record-clause-walked_at : goal.returns-in_err-record-clause-walked_at
+returns-in_err-record-clause-walked_at c =
+    let p = err_from_is_err_and c.from_residual-in_err-record.result c.from_residual-in_err-record.ensures.1 in
+    rw (p.1, p.2) (ends_bad c.loop-next.invariant c.requires.at_lt_n.1 c.loop-next-test.true c.tested_step.ensures
+    (leads (goal.at.returns-in_err-record-clause-walked_at c).In-Some) c.word_at.ensures c.in_err-record.was).0
 
-pub returns-then-count-room : goal.returns-then-count-room
-returns-then-count-room c = let all = ends_full c.loop-next.invariant c.requires.at_lt_n.1 c.loop-next-test.true c.tested_step.ensures
-    c.in-At.is c.word_at.ensures
-    c.in-Record.is (omega (arith, c.if-count-room.true)) in record { walked_at = all.0; kept = all.1 }
+pub returns-then-count-room-clause-walked_at : goal.returns-then-count-room-clause-walked_at
+returns-then-count-room-clause-walked_at c =
+    (ends_full c.loop-next.invariant c.requires.at_lt_n.1 c.loop-next-test.true c.tested_step.ensures
+    (leads (goal.at.returns-then-count-room-clause-walked_at c).In-Some) c.word_at.ensures
+    (c.in_ok-record.was ∙ ap Ok c.in-Some-2.is) (omega (arith, c.if-count-room.true))).0
 
 pub overflow_cast-edge_records : goal.overflow_cast-edge_records
 overflow_cast-edge_records c =
     let below =
-    in_use_record c.loop-next.invariant c.requires.at_lt_n.1 c.loop-next-test.true c.tested_step.ensures c.in-At.is
-    c.word_at.ensures c.in-Record.is in
+    in_use_record c.loop-next.invariant c.requires.at_lt_n.1 c.loop-next-test.true c.tested_step.ensures
+    (leads (goal.at.overflow_cast-edge_records c).In-Some) c.word_at.ensures (c.in_ok-record.was ∙ ap Ok c.in-Some-2.is) in
     omega (arith, below, c.requires.taken_le_room.3)
+
+pub loop-next-preserved-in_default-2 : goal.loop-next-preserved-in_default-2
+loop-next-preserved-in_default-2 c =
+    goes_on c.loop-next.invariant c.requires.at_lt_n.1 c.loop-next-test.true c.tested_step.ensures
+    (leads (goal.at.loop-next-preserved-in_default-2 c).In-Some) c.word_at.ensures
+    c.args.tables.slots.table (c.in_ok-record.was ∙ ap Ok c.in_default-2.is)
 
 pub loop-next-preserved : goal.loop-next-preserved
 loop-next-preserved c =
-    goes_on_behind c.loop-next.invariant c.requires.at_lt_n.1 c.loop-next-test.true c.tested_step.ensures c.in-At.is
-    c.word_at.ensures c.in-Record.is c.requires.slot_table (omega (arith, c.if-count-room.false, c.loop-next.invariant.within))
+    goes_on_behind c.loop-next.invariant c.requires.at_lt_n.1 c.loop-next-test.true c.tested_step.ensures
+    (leads (goal.at.loop-next-preserved c).In-Some) c.word_at.ensures (c.in_ok-record.was ∙ ap Ok c.in-Some-2.is)
+    c.args.tables.slots.table (omega (arith, c.if-count-room.false, c.loop-next.invariant.within))
     c.requires.taken_le_room.1 c.requires.taken_le_room.2
 
-pub returns-in-Bad : goal.returns-in-Bad
-returns-in-Bad c = let all = ends_bad c.loop-next.invariant c.requires.at_lt_n.1 c.loop-next-test.true c.tested_step.ensures
-    c.in-At.is c.word_at.ensures
-    c.in-Bad.is in record { walked_at = all.0; kept = all.1 }
-
-pub returns : goal.returns
-returns c = let all = ends_here c.loop-next.invariant c.requires.at_lt_n.1 c.loop-next-test.false in record { walked_at = all.0; kept = all.1 }
+pub returns-clause-walked_at : goal.returns-clause-walked_at
+returns-clause-walked_at c = (ends_here c.loop-next.invariant c.requires.at_lt_n.1 c.loop-next-test.false).0

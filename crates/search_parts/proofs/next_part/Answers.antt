@@ -1,5 +1,6 @@
 -- `search_parts::next_part` meets its contract. The loop's invariant is `Reading`: the characters passed are no connectors, and it is known whether a letter is
 -- among them. Assumes nothing.
+use mathlib.Core.Path.{◌≡◌}
 use native.Mathlib.Omega.{arith}
 use Rattle.search_parts.proofs.Parts.{reading_begins, reading_ends, reading_stops, passes_letter, passes_other}
 use Rattle.search_parts.proofs.next_part.Goals as goal
@@ -19,8 +20,10 @@ loop-end-preserved c =
           c.is_ascii_alphabetic.ensures w.if-is_ascii_alphabetic.false)
     ]
 
-pub returns-after-loop-end : goal.returns-after-loop-end
-returns-after-loop-end c = reading_ends c.loop-end.invariant c.loop-end-test.false
+pub returns : goal.returns
+returns c =
+    let there : c.loop-end.end ≡ c.args.to = omega (arith, c.loop-end.invariant.run.inside) in
+    rw there at (reading_ends c.loop-end.invariant c.loop-end-test.false)
 
 pub returns-then-is_connector : goal.returns-then-is_connector
 returns-then-is_connector c = reading_stops c.loop-end.invariant _ c.is_connector.ensures c.if-is_connector.true

@@ -1,11 +1,10 @@
 -- `sheets::fill_lines` meets its contract: at each turn what is written and what is left of the sheet make the whole, and what is written is at most twice as
 -- long as what it came from (`FillingLines`), so there is room for the next line. The measure is how much of the sheet is left. Assumes nothing.
-use Prim.Native.Nat.{◌+◌, ◌-◌, ◌*◌, ◌≤◌}
-use mathlib.Core.Logic.{⊎_elim}
+use Prim.Native.Nat.{◌+◌, ◌*◌, ◌≤◌}
 use native.Mathlib.Omega.{arith}
 use lib.ListN.{length}
 use Rattle.lines.proofs.Ends.{end_bounds}
-use Rattle.sheets.proofs.Writing.{filling_lines, all_filled, line_room, with_line_end, without_line_end, part_length}
+use Rattle.sheets.proofs.Writing.{all_filled, line_room, with_line_end, without_line_end}
 use Rattle.sheets.proofs.fill_lines.Goals as goal
 use Rattle.sheets.proofs.fill_lines.Goals.{After-fill_line-written, After-line_end-end}
 
@@ -22,9 +21,6 @@ room : (c : goal.After-fill_line-written) → c.fill_line-written.result ≤ 2 *
 room c =
     line_room _ _ _ _ _ c.loop-at.invariant.1 _ c.line_end-end.ensures _ _ c.fill_line-written.ensures (bounds (goal.at.After-fill_line-written c).After-line_end-end).0 (bounds (goal.at.After-fill_line-written c).After-line_end-end).1
 
-pub loop-at-init : goal.loop-at-init
-loop-at-init c = (omega arith, filling_lines _ _)
-
 pub slice_bounds-fill_line-count : goal.slice_bounds-fill_line-count
 slice_bounds-fill_line-count c = (bounds c).0
 
@@ -34,11 +30,6 @@ slice_bounds-fill_line-start c = omega (arith, bounds c)
 pub slice_bounds-fill_line-end : goal.slice_bounds-fill_line-end
 slice_bounds-fill_line-end c = omega (arith, bounds c)
 
-pub fill_line-written-requires : goal.fill_line-written-requires
-fill_line-written-requires c =
-    let so_far = c.loop-at.invariant.1 in
-    omega (arith, c.requires, c.loop-at-test.true, so_far.room, so_far.long, bounds (goal.at.fill_line-written-requires c).After-line_end-end, part_length c.args.sheet.now c.loop-at.at c.line_end-end.result (bounds (goal.at.fill_line-written-requires c).After-line_end-end).0 (bounds (goal.at.fill_line-written-requires c).After-line_end-end).1)
-
 pub bounds-out-written : goal.bounds-out-written
 bounds-out-written c =
     omega (arith, c.requires, room (goal.at.bounds-out-written c).After-fill_line-written, c.if-end-sheet.true, c.fill_line-written.auto.out, c.loop-at.invariant.1.long)
@@ -46,10 +37,6 @@ bounds-out-written c =
 pub overflow_add-written : goal.overflow_add-written
 overflow_add-written c =
     omega (arith, c.requires, room (goal.at.overflow_add-written c).After-fill_line-written, c.if-end-sheet.true)
-
-pub overflow_add-at : goal.overflow_add-at
-overflow_add-at c =
-    omega (arith, bounds (goal.at.overflow_add-at c).After-line_end-end)
 
 pub loop-at-smaller : goal.loop-at-smaller
 loop-at-smaller c =
@@ -62,9 +49,6 @@ loop-at-preserved c =
     let ended = with_line_end _ _ _ _ _ so_far _ c.line_end-end.ensures _ _ c.fill_line-written.ensures within.0 in
     let open_end = without_line_end _ _ _ _ _ so_far _ c.line_end-end.ensures _ _ c.fill_line-written.ensures within.0 within.1 in
     (omega (arith, within), grind (arith, ended, open_end))
-
-pub shape_of-out : goal.shape_of-out
-shape_of-out c = c.loop-at.invariant.1.long
 
 pub returns : goal.returns
 returns c = all_filled _ _ _ _ _ c.loop-at.invariant.1 c.loop-at-test.false

@@ -13,19 +13,10 @@ returns-then-head-ne-HEAD_LENGTH c = let args = c.args in record {
   unchanged = λ none. (refl, refl);
 }
 
-pub shape_of-chars : goal.shape_of-chars
-shape_of-chars c = c.cut_all.auto.chars
-
-pub shape_of-offsets : goal.shape_of-offsets
-shape_of-offsets c = c.cut_all.auto.offsets
-
-pub shape_of-tokens : goal.shape_of-tokens
-shape_of-tokens c = c.cut_all.auto.tokens
-
 pub returns : goal.returns
 returns c = let four = c.if-head-ne-HEAD_LENGTH.false in
     let args = c.args in record {
-      tokens_value = cut_all_by_lem _ _ _ _ four _ c.read_head.ensures _ _ _ _ c.cut_all.ensures.tokens_value _ _ c.returned.ensures.0 c.returned.ensures.1;
+      tokens_value = cut_all_by_lem _ _ _ _ four _ c.read_head.ensures _ _ _ c.cut_all.result _ c.cut_all.ensures.tokens_value _ _ (c.returned.ensures _).0 (c.returned.ensures _).1;
       unchanged = λ none.
           c.cut_all.ensures.unchanged
           (not_begun args.head.now (trie_of args.roots.now args.slots.now) args.records.now args.logarithms.now four _ c.read_head.ensures

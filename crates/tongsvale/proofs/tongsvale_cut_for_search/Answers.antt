@@ -15,39 +15,12 @@ returns-then-head-ne-HEAD_LENGTH c = let args =
       unchanged = λ none. (refl, refl, refl, refl, refl, refl, refl, refl);
     }
 
-pub shape_of-chars : goal.shape_of-chars
-shape_of-chars c = c.cut_for_search.auto.chars
-
-pub shape_of-offsets : goal.shape_of-offsets
-shape_of-offsets c = c.cut_for_search.auto.offsets
-
-pub shape_of-starts : goal.shape_of-starts
-shape_of-starts c = c.cut_for_search.auto.starts
-
-pub shape_of-scores : goal.shape_of-scores
-shape_of-scores c = c.cut_for_search.auto.scores
-
-pub shape_of-ends : goal.shape_of-ends
-shape_of-ends c = c.cut_for_search.auto.ends
-
-pub shape_of-route_records : goal.shape_of-route_records
-shape_of-route_records c = c.cut_for_search.auto.route_records
-
-pub shape_of-edge_ends : goal.shape_of-edge_ends
-shape_of-edge_ends c = c.cut_for_search.auto.edge_ends
-
-pub shape_of-edge_records : goal.shape_of-edge_records
-shape_of-edge_records c = c.cut_for_search.auto.edge_records
-
-pub shape_of-tokens : goal.shape_of-tokens
-shape_of-tokens c = c.cut_for_search.auto.tokens
-
 pub returns : goal.returns
 returns c = let four = c.if-head-ne-HEAD_LENGTH.false in
     let args =
     c.args in record {
-      tokens_value = cut_for_search_by_lem _ _ _ _ four _ c.read_head.ensures _ _ _ _ _ c.cut_for_search.ensures.tokens_value _ _ c.returned.ensures.0
-          c.returned.ensures.1;
+      tokens_value = cut_for_search_by_lem _ _ _ _ four _ c.read_head.ensures _ _ _ c.cut_for_search.result _ _ c.cut_for_search.ensures.tokens_value _ _ (c.returned.ensures _).0
+          (c.returned.ensures _).1;
       unchanged = λ none.
           c.cut_for_search.ensures.unchanged
           (not_begun args.head.now (trie_of args.roots.now args.slots.now) args.records.now args.logarithms.now four _ c.read_head.ensures

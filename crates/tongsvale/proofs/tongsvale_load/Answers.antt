@@ -1,26 +1,16 @@
 -- `tongsvale::tongsvale_load` meets its contract: a head of another length is refused, else the call's answer in numbers. Assumes nothing.
-use Rattle.tongsvale.proofs.Exports.{load_refused, loaded_by}
+use Rattle.tongsvale.proofs.Exports.{load_refused, all_loaded, load_stopped}
 use Rattle.tongsvale.proofs.tongsvale_load.Goals as goal
 
 pub returns-then-head-ne-HEAD_LENGTH : goal.returns-then-head-ne-HEAD_LENGTH
 returns-then-head-ne-HEAD_LENGTH c = load_refused _ _ _ _ c.if-head-ne-HEAD_LENGTH.true _ c.number_of.ensures _
 
-pub shape_of-head : goal.shape_of-head
-shape_of-head c = c.write_head.auto.head
+pub returns-in-Ok : goal.returns-in-Ok
+returns-in-Ok c =
+    all_loaded _ _ _ _ c.if-head-ne-HEAD_LENGTH.false _ c.read_head-value.ensures _ _ _ c.load_dict-loaded.ensures.logarithms_value _ c.write_head.ensures
+    c.in-Ok.is
 
-pub shape_of-roots : goal.shape_of-roots
-shape_of-roots c = c.load_dict-loaded.auto.roots
-
-pub shape_of-slots : goal.shape_of-slots
-shape_of-slots c = c.load_dict-loaded.auto.slots
-
-pub shape_of-records : goal.shape_of-records
-shape_of-records c = c.load_dict-loaded.auto.records
-
-pub shape_of-logarithms : goal.shape_of-logarithms
-shape_of-logarithms c = c.load_dict-loaded.auto.logarithms
-
-pub returns : goal.returns
-returns c =
-    loaded_by _ _ _ _ c.if-head-ne-HEAD_LENGTH.false _ c.read_head.ensures _ _ c.load_dict-loaded.ensures.logarithms_value _ c.number_of-2.ensures _
-    c.write_head.ensures
+pub returns-in-Err : goal.returns-in-Err
+returns-in-Err c =
+    load_stopped _ _ _ _ c.if-head-ne-HEAD_LENGTH.false _ c.read_head-value.ensures _ _ _ c.load_dict-loaded.ensures.logarithms_value _ c.write_head.ensures
+    c.in-Err.is _ c.number_of-in-Err.ensures

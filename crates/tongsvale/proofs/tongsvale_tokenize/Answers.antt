@@ -24,40 +24,13 @@ returns-then-mode-gt-SEARCH c = let args =
       unchanged = λ none. (refl, refl, refl, refl, refl, refl, refl, refl);
     }
 
-pub shape_of-chars : goal.shape_of-chars
-shape_of-chars c = c.tokenize.auto.chars
-
-pub shape_of-offsets : goal.shape_of-offsets
-shape_of-offsets c = c.tokenize.auto.offsets
-
-pub shape_of-starts : goal.shape_of-starts
-shape_of-starts c = c.tokenize.auto.starts
-
-pub shape_of-scores : goal.shape_of-scores
-shape_of-scores c = c.tokenize.auto.scores
-
-pub shape_of-ends : goal.shape_of-ends
-shape_of-ends c = c.tokenize.auto.ends
-
-pub shape_of-route_records : goal.shape_of-route_records
-shape_of-route_records c = c.tokenize.auto.route_records
-
-pub shape_of-edge_ends : goal.shape_of-edge_ends
-shape_of-edge_ends c = c.tokenize.auto.edge_ends
-
-pub shape_of-edge_records : goal.shape_of-edge_records
-shape_of-edge_records c = c.tokenize.auto.edge_records
-
-pub shape_of-tokens : goal.shape_of-tokens
-shape_of-tokens c = c.tokenize.auto.tokens
-
 pub returns : goal.returns
 returns c = let among = c.if-mode-gt-SEARCH.false in
     let four = c.if-head-ne-HEAD_LENGTH.false in
     let args =
     c.args in record {
-      tokens_value = tokenize_by _ _ _ _ four _ c.read_head.ensures _ _ _ _ _ _ among _ c.mode_of.ensures c.tokenize.ensures.tokens_value _ _
-          c.returned.ensures.0 c.returned.ensures.1;
+      tokens_value = tokenize_by _ _ _ _ four _ c.read_head.ensures _ _ _ c.tokenize.result _ _ _ among _ c.mode_of.ensures c.tokenize.ensures.tokens_value _ _
+          (c.returned.ensures _).0 (c.returned.ensures _).1;
       unchanged = λ none.
           c.tokenize.ensures.unchanged
           (not_begun_by args.head.now (trie_of args.roots.now args.slots.now) args.records.now args.logarithms.now four _ c.read_head.ensures

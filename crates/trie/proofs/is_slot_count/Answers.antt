@@ -1,6 +1,6 @@
 -- `trie::is_slot_count` meets its contract, by the laws of `Slots`. Assumes nothing.
 use native.Mathlib.Omega.{arith}
-use Rattle.trie.proofs.Slots.{zeros_below, too_few, too_many, by_power}
+use Rattle.trie.proofs.SlotCounts.{zeros_below, too_few, too_many, by_power}
 use Rattle.trie.proofs.is_slot_count.Goals as goal
 
 pub returns-then-n-lt-FEWEST_SLOTS : goal.returns-then-n-lt-FEWEST_SLOTS

@@ -1,5 +1,5 @@
 -- `trie::shift_of` meets its contract: 64 - log2 is one more than the leading zeros. Assumes nothing.
-use Rattle.trie.proofs.Slots.{shift_is, zeros_fit}
+use Rattle.trie.proofs.SlotCounts.{shift_is, zeros_fit}
 use Rattle.trie.proofs.shift_of.Goals as goal
 
 pub overflow_add-result : goal.overflow_add-result

@@ -1,12 +1,14 @@
 -- `unmatched::cut_unmatched` meets its contract. The loop's invariant is `Putting`, and each turn takes one character, or CR LF. Assumes nothing.
-use mathlib.Core.Path.{sym, ◌∙◌}
+use Rattle.std.specs.Prelude.{Err}
+use Rattle.std.proofs.Common.{rules}
+use mathlib.Core.Path.{◌≡◌}
 use native.Mathlib.Omega.{arith}
 use lib.ListN.{take}
 use lib.Seq.{length-take-le}
 use Rattle.tokens.proofs.Turns.{Turn, begins, refused, one_more, ends, emitted_in}
 use Rattle.unmatched.proofs.Unmatched.{singly_from, all_singly, singly_end, cr_lf, no_lf, cr_at_end, no_cr}
 use Rattle.unmatched.proofs.cut_unmatched.Goals as goal
-use Rattle.unmatched.proofs.cut_unmatched.Goals.{Joined-chars-x-eq13}
+use Rattle.unmatched.proofs.cut_unmatched.Goals.{After-from_residual, Joined-chars-x-eq13}
 
 -- where the span ends, by the tests
 turn : (c : goal.Joined-chars-x-eq13)
@@ -28,23 +30,23 @@ turn c =
 pub loop-x-init : goal.loop-x-init
 loop-x-init c = begins _ _ _ _ _ _ _
 
-pub emit_span-put-requires : goal.emit_span-put-requires
-emit_span-put-requires c =
-    let t = turn (goal.at.emit_span-put-requires c).Joined-chars-x-eq13 in
+pub emit_span-requires : goal.emit_span-requires
+emit_span-requires c =
+    let t = turn (goal.at.emit_span-requires c).Joined-chars-x-eq13 in
     (omega (arith, t.forward), omega (arith, t.inside), omega (arith, t.inside))
 
-pub shape_of-tokens-then-not-is_done : goal.shape_of-tokens-then-not-is_done
-shape_of-tokens-then-not-is_done c =
-    c.emit_span-put.auto.tokens ∙ c.loop-x.invariant.long
+refused_as : (c : goal.After-from_residual) → c.from_residual.result ≡ Err c.in_err-count.field-0.0
+refused_as c = search rules
 
-pub returns-then-not-is_done : goal.returns-then-not-is_done
-returns-then-not-is_done c place known =
+pub returns-in_err-count : goal.returns-in_err-count
+returns-in_err-count c place known =
     let args = c.args in
-    refused _ _ _ _ _ _ _ c.loop-x.invariant (turn (goal.at.returns-then-not-is_done c).Joined-chars-x-eq13) c.emit_span-put.result _
-    (emitted_in _ _ _ _ _ _ _ _ c.emit_span-put.result _ (length-take-le args.n args.chars.now c.requires.0) (turn (goal.at.returns-then-not-is_done c).Joined-chars-x-eq13).inside
-    c.emit_span-put.ensures)
-    (sym c.is_done.ensures ∙ c.if-not-is_done.true)
-    _ (all_singly _) place known
+    rw (refused_as c)
+    (refused _ _ _ _ _ _ _ c.loop-x.invariant (turn (goal.at.returns-in_err-count c).Joined-chars-x-eq13) c.emit_span.result _
+    (emitted_in _ _ _ _ _ _ _ _ c.emit_span.result _ (length-take-le args.n args.chars.now c.requires.0) (turn (goal.at.returns-in_err-count c).Joined-chars-x-eq13).inside
+    c.emit_span.ensures)
+    c.in_err-count.was
+    _ (all_singly _) place known)
 
 pub loop-x-smaller : goal.loop-x-smaller
 loop-x-smaller c = omega (arith, turn (goal.at.loop-x-smaller c).Joined-chars-x-eq13)
@@ -52,14 +54,11 @@ loop-x-smaller c = omega (arith, turn (goal.at.loop-x-smaller c).Joined-chars-x-
 pub loop-x-preserved : goal.loop-x-preserved
 loop-x-preserved c =
     let args = c.args in
-    one_more _ _ _ _ _ _ _ c.loop-x.invariant (turn (goal.at.loop-x-preserved c).Joined-chars-x-eq13) c.emit_span-put.result _
-    (emitted_in _ _ _ _ _ _ _ _ c.emit_span-put.result _ (length-take-le args.n args.chars.now c.requires.0) (turn (goal.at.loop-x-preserved c).Joined-chars-x-eq13).inside
-    c.emit_span-put.ensures)
-    (sym c.is_done.ensures ∙ c.if-not-is_done.false)
-    c.emit_span-put.auto.tokens
-
-pub shape_of-tokens : goal.shape_of-tokens
-shape_of-tokens c = c.loop-x.invariant.long
+    one_more _ _ _ _ _ _ _ c.loop-x.invariant (turn (goal.at.loop-x-preserved c).Joined-chars-x-eq13) c.emit_span.result _
+    (emitted_in _ _ _ _ _ _ _ _ c.emit_span.result _ (length-take-le args.n args.chars.now c.requires.0) (turn (goal.at.loop-x-preserved c).Joined-chars-x-eq13).inside
+    c.emit_span.ensures)
+    c.in_ok-count.was
+    c.emit_span.auto.tokens
 
 pub returns : goal.returns
 returns c place known =

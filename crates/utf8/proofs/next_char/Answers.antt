@@ -4,37 +4,40 @@ use Rattle.utf8.proofs.Bytes.{second_within, third_within, fourth_within, next_1
 use Rattle.utf8.proofs.next_char.Goals as goal
 
 pub returns-then-b0-lt128 : goal.returns-then-b0-lt128
-returns-then-b0-lt128 c = next_1 _ _ c.requires.0 c.requires.1 _ c.wide-b0.ensures.0 c.if-b0-lt128.true
+returns-then-b0-lt128 c = rw c.new.ensures (next_1 _ _ c.requires.0 c.requires.1 _ c.from-b0.ensures c.if-b0-lt128.true)
 
 pub bounds-s-at-2 : goal.bounds-s-at-2
-bounds-s-at-2 c = second_within _ _ c.requires.0 c.requires.1 _ c.wide-b0.ensures.0 c.if-b0-lt128.false
+bounds-s-at-2 c = second_within _ _ c.requires.0 c.requires.1 _ c.from-b0.ensures c.if-b0-lt128.false
 
-pub overflow_sub-result : goal.overflow_sub-result
-overflow_sub-result c =
-    (next_2 _ _ c.requires.0 c.requires.1 _ c.wide-b0.ensures.0 _ c.wide.ensures.0 c.if-b0-lt128.false c.if-b0-lt224.true).0
+pub overflow_sub-c1 : goal.overflow_sub-c1
+overflow_sub-c1 c =
+    (next_2 _ _ c.requires.0 c.requires.1 _ c.from-b0.ensures _ c.from.ensures c.if-b0-lt128.false c.if-b0-lt224.true).0
 
 pub returns-then-b0-lt224 : goal.returns-then-b0-lt224
 returns-then-b0-lt224 c =
-    (next_2 _ _ c.requires.0 c.requires.1 _ c.wide-b0.ensures.0 _ c.wide.ensures.0 c.if-b0-lt128.false c.if-b0-lt224.true).1
+    rw c.new-then-b0-lt224.ensures
+    (next_2 _ _ c.requires.0 c.requires.1 _ c.from-b0.ensures _ c.from.ensures c.if-b0-lt128.false c.if-b0-lt224.true).1
 
 pub bounds-s-at-3 : goal.bounds-s-at-3
-bounds-s-at-3 c = third_within _ _ c.requires.0 c.requires.1 _ c.wide-b0.ensures.0 c.if-b0-lt224.false
+bounds-s-at-3 c = third_within _ _ c.requires.0 c.requires.1 _ c.from-b0.ensures c.if-b0-lt224.false
 
-pub overflow_sub-result-then-b0-lt240 : goal.overflow_sub-result-then-b0-lt240
-overflow_sub-result-then-b0-lt240 c =
-    (next_3 _ _ c.requires.0 c.requires.1 _ c.wide-b0.ensures.0 _ c.wide.ensures.0 _ c.wide-2.ensures.0 c.if-b0-lt224.false c.if-b0-lt240.true).0
+pub overflow_sub-c2 : goal.overflow_sub-c2
+overflow_sub-c2 c =
+    (next_3 _ _ c.requires.0 c.requires.1 _ c.from-b0.ensures _ c.from.ensures _ c.from-2.ensures c.if-b0-lt224.false c.if-b0-lt240.true).0
 
 pub returns-then-b0-lt240 : goal.returns-then-b0-lt240
 returns-then-b0-lt240 c =
-    (next_3 _ _ c.requires.0 c.requires.1 _ c.wide-b0.ensures.0 _ c.wide.ensures.0 _ c.wide-2.ensures.0 c.if-b0-lt224.false c.if-b0-lt240.true).1
+    rw c.new-then-b0-lt240.ensures
+    (next_3 _ _ c.requires.0 c.requires.1 _ c.from-b0.ensures _ c.from.ensures _ c.from-2.ensures c.if-b0-lt224.false c.if-b0-lt240.true).1
 
 pub bounds-s-at-4 : goal.bounds-s-at-4
-bounds-s-at-4 c = fourth_within _ _ c.requires.0 c.requires.1 _ c.wide-b0.ensures.0 c.if-b0-lt240.false
+bounds-s-at-4 c = fourth_within _ _ c.requires.0 c.requires.1 _ c.from-b0.ensures c.if-b0-lt240.false
 
-pub overflow_sub-result-2 : goal.overflow_sub-result-2
-overflow_sub-result-2 c =
-    (next_4 _ _ c.requires.0 c.requires.1 _ c.wide-b0.ensures.0 _ c.wide.ensures.0 _ c.wide-2.ensures.0 _ c.wide-3.ensures.0 c.if-b0-lt240.false).0
+pub overflow_sub-c3 : goal.overflow_sub-c3
+overflow_sub-c3 c =
+    (next_4 _ _ c.requires.0 c.requires.1 _ c.from-b0.ensures _ c.from.ensures _ c.from-2.ensures _ c.from-3.ensures c.if-b0-lt240.false).0
 
 pub returns : goal.returns
 returns c =
-    (next_4 _ _ c.requires.0 c.requires.1 _ c.wide-b0.ensures.0 _ c.wide.ensures.0 _ c.wide-2.ensures.0 _ c.wide-3.ensures.0 c.if-b0-lt240.false).1
+    rw c.new-2.ensures
+    (next_4 _ _ c.requires.0 c.requires.1 _ c.from-b0.ensures _ c.from.ensures _ c.from-2.ensures _ c.from-3.ensures c.if-b0-lt240.false).1

@@ -5,8 +5,8 @@ use Rattle.walk.proofs.root_step.Goals as goal
 pub returns-then-child_of-eq0 : goal.returns-then-child_of-eq0
 returns-then-child_of-eq0 c = search root_empty
 
-pub returns-then-i-roots : goal.returns-then-i-roots
-returns-then-i-roots c = search root_taken
+pub returns-then-i-tables : goal.returns-then-i-tables
+returns-then-i-tables c = search root_taken
 
 pub returns : goal.returns
 returns c = search root_slot

@@ -3,11 +3,11 @@ use Rattle.walk.proofs.Places.{entry_inside, slot_inside, tested_at_root, tested
 use borrow.Author.Rules.{rules}
 use Rattle.walk.proofs.tested_step.Goals as goal
 
-pub offset_bounds-roots-i : goal.offset_bounds-roots-i
-offset_bounds-roots-i c = search (rules, entry_inside)
+pub offset_bounds-tables-i : goal.offset_bounds-tables-i
+offset_bounds-tables-i c = search (rules, entry_inside)
 
-pub bounds-roots-i : goal.bounds-roots-i
-bounds-roots-i c = search entry_inside
+pub bounds-tables-i : goal.bounds-tables-i
+bounds-tables-i c = search entry_inside
 
 pub key_at-filter-requires : goal.key_at-filter-requires
 key_at-filter-requires c = search slot_inside

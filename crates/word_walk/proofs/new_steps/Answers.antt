@@ -2,10 +2,8 @@
 use Rattle.word_walk.proofs.NewSteps.{count_known, count_positive, new_from_root, new_below}
 use Rattle.word_walk.proofs.new_steps.Goals as goal
 
-pub returns-in_default : goal.returns-in_default
-returns-in_default c =
-    λ slots cs all. absurd
-    (count_known _ _ c.requires _ c.char_count.ensures c.in_default.is)
+pub unreachable-requires : goal.unreachable-requires
+unreachable-requires c = search count_known
 
 pub overflow_sub-slots : goal.overflow_sub-slots
 overflow_sub-slots c = search count_positive

@@ -1,9 +1,9 @@
 -- `word_walk::walk` meets its contract. The loop's invariant: the place is one of the tables, the text from the position on is well formed, and its steps
 -- from the place lead where those of the whole text lead from the root. Assumes nothing.
-use mathlib.Core.Path.{ap}
-use Prim.Native.Nat.{◌-◌}
+use mathlib.Core.Path.{◌≡◌, ap}
 use native.Mathlib.Omega.{arith}
 use borrow.Author.Rules.{rules}
+use Rattle.std.specs.Prelude.{Ok, Some, None}
 use Rattle.trie.specs.declared.ParentRef.TheVariants.{Root}
 use Rattle.utf8.proofs.Positions.{inside, from_start, value_below, still_chars}
 use Rattle.walk.specs.Walk.{walk_from}
@@ -30,18 +30,19 @@ pub loop-at-smaller : goal.loop-at-smaller
 loop-at-smaller c = omega (arith, inside _ _ _ _ _ c.next_char-next.ensures)
 
 pub loop-at-preserved : goal.loop-at-preserved
-loop-at-preserved c = (
-  omega (arith, inside _ _ _ _ _ c.next_char-next.ensures),
-  search leads_tested,
-  search still_chars,
-  search walk_next,
-)
+loop-at-preserved c =
+    let leads : c.tested_step.result ≡ Ok (Some c.in-Some.child) = cc c.in_ok-child.was in (
+      omega (arith, inside _ _ _ _ _ c.next_char-next.ensures),
+      search leads_tested,
+      search still_chars,
+      search walk_next,
+    )
 
-pub returns-in-Nothing : goal.returns-in-Nothing
-returns-in-Nothing c = search walk_nothing
+pub returns-in_default : goal.returns-in_default
+returns-in_default c = let nothing : c.tested_step.result ≡ Ok None = cc c.in_ok-child.was in search walk_nothing
 
-pub returns-in-Damaged : goal.returns-in-Damaged
-returns-in-Damaged c = search walk_damaged
+pub returns-in_err-child : goal.returns-in_err-child
+returns-in_err-child c = search (walk_damaged, c.in_err-child.was)
 
 pub returns : goal.returns
 returns c = search walk_end

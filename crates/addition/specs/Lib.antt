@@ -1,2 +1,0 @@
--- The definitions that the contracts of `addition` cite beside those of `book`.
-pub mod Answers

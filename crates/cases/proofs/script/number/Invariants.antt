@@ -1,7 +1,0 @@
--- `cases::script::number` is safe and ends: the index is at most the command's length, and the measure is what is left of it.
--- Assumes nothing.
-use Rattle.std.proofs.Common.{◌-◌, length}
-use Rattle.cases.proofs.script.number.Given as goal
-
-abbrev pub decreases-loop-i : goal.decreases-loop-i
-decreases-loop-i l = length l.command - l.i
