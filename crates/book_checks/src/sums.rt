@@ -17,9 +17,12 @@ fn whole(x: f64) -> u64 {
     PRIME - 1
 }
 
-// The sum over all four areas.
+fn sum_from(start: u64, numbers: &[u64]) -> u64 {
+    numbers.iter().fold(start, |sum, x| mix(sum, *x))
+}
+
+// The sum over all four areas, one after the other: a `chain` of them asks at each number in which it is.
 pub fn sum_of(roots: &[u64], slots: &[u64], records: &[u64], logarithms: &[f64]) -> u64 {
-    let numbers = roots.iter().chain(slots).chain(records).copied();
-    let wholes = logarithms.iter().map(|x| whole(*x));
-    numbers.chain(wholes).fold(1, |sum, x| mix(sum, x))
+    let sum = sum_from(sum_from(sum_from(1, roots), slots), records);
+    logarithms.iter().fold(sum, |sum, x| mix(sum, whole(*x)))
 }

@@ -15,6 +15,7 @@ use Rattle.trie.specs.declared.ParentRef.{ParentRef}
 use Rattle.trie.specs.declared.ParentRef.TheVariants.{Root}
 use Rattle.trie.specs.Trie.{CharTrie, open_step, from_root, word_at, Reach, Reached, NoEnd, reach, new_slots, get_of, Step, WordNumber}
 use Rattle.walk.specs.declared.Room.{Room}
+use Rattle.walk.specs.declared.Room.TheVariants.{Whole, Partly}
 use Rattle.walk.specs.Walk.{got_of, new_steps, room_at, room_from, room_of}
 use Rattle.book.specs.declared.Refusal.{Refusal}
 use Rattle.book.specs.Returns.{Book}
@@ -24,15 +25,17 @@ use Rattle.decision.specs.Texts.{absent_text, decide_text}
 -- the decision by what a new word finds
 abbrev pub by_room : Book → Result Room Damaged → ℕ → Decision
 by_room b (Err d) frequency = Err Refusal.Damaged
-by_room b (Ok room) frequency = decide_new b room.slots room.nodes frequency
+by_room b (Ok (Whole (Err d))) frequency = Err Refusal.Damaged
+by_room b (Ok (Whole (Ok w))) frequency = decide_new b 0 0 frequency
+by_room b (Ok (Partly slots nodes)) frequency = decide_new b slots nodes frequency
 
 by_reach : (b : Book) (r : Reach) (frequency : ℕ) → by_room b (room_at b.head.records b.trie r) frequency ≡ decide_absent b r frequency
-unfolding room_at new_steps new_slots
+unfolding room_at new_steps
 by_reach b NoEnd frequency = refl
 by_reach b (Reached p (c ∷ cs)) frequency = refl
 by_reach b (Reached p []) frequency = go (word_at b.head.records b.trie p)
   where
-    go : (w : WordNumber) → by_room b (elim w [ Ok r ↦ Ok (new_steps b.trie p []) | Err d ↦ Err d ]) frequency ≡ decide_reached b p [] w frequency
+    go : (w : WordNumber) → by_room b (Ok (Whole w)) frequency ≡ decide_reached b p [] w frequency
     go (Ok None) = refl
     go (Ok (Some n)) = refl
     go (Err d) = refl
@@ -67,35 +70,30 @@ slots_nodes t p (c ∷ cs) = go (from_root t p c)
     go true = omega arith
     go false = omega arith
 
-room_of_lem : (used : ℕ) (t : CharTrie) (cs : List ℕ) (room : Room) (r : Reach) → reach t Root cs ≡ r → room_at used t r ≡ Ok room
-    → (room.slots ≤ length cs) × (room.nodes ≤ length cs)
-unfolding room_at new_steps new_slots
-room_of_lem used t cs room NoEnd e f = let z : ◌≡◌ {A = ℕ} 0 1 = cc in absurd (omega arith)
-room_of_lem used t cs room (Reached p []) e f = go (word_at used t p) f
-  where
-    go : (w : WordNumber) → ◌≡◌ {A = Result Room Damaged} (elim w [ Ok r ↦ Ok (new_steps t p []) | Err d ↦ Err d ]) (Ok room)
-        → (room.slots ≤ length cs) × (room.nodes ≤ length cs)
-    go (Ok r) g = let es : 0 ≡ room.slots = cc in let en : 0 ≡ room.nodes = cc in (omega arith, omega arith)
-    go (Err d) g = let z : ◌≡◌ {A = ℕ} 0 1 = cc in absurd (omega arith)
-room_of_lem used t cs room (Reached p (c ∷ rest)) e f =
+room_of_lem : (used : ℕ) (t : CharTrie) (cs : List ℕ) (slots nodes : ℕ) (r : Reach) → reach t Root cs ≡ r → room_at used t r ≡ Ok (Partly slots nodes)
+    → (slots ≤ length cs) × (nodes ≤ length cs)
+unfolding room_at new_steps
+room_of_lem used t cs slots nodes NoEnd e f = let z : ◌≡◌ {A = ℕ} 0 1 = cc in absurd (omega arith)
+room_of_lem used t cs slots nodes (Reached p []) e f = let z : ◌≡◌ {A = ℕ} 0 1 = cc in absurd (omega arith)
+room_of_lem used t cs slots nodes (Reached p (c ∷ rest)) e f =
     let l = left_over t Root p cs (c ∷ rest) e in
     let n = slots_nodes t p (c ∷ rest) in
-    let es : new_slots t p (c ∷ rest) ≡ room.slots = cc in
-    let en : length (c ∷ rest) ≡ room.nodes = cc in
+    let es : new_slots t p (c ∷ rest) ≡ slots = cc in
+    let en : length (c ∷ rest) ≡ nodes = cc in
     (omega arith, omega arith)
 
-by_text : (used : ℕ) (t : CharTrie) (bs : List ℕ) (o : Option (List ℕ)) (room : Room) → chars_of bs ≡ o → room_of used t o ≡ Ok room
-    → (room.slots ≤ length bs) × (room.nodes ≤ length bs)
+by_text : (used : ℕ) (t : CharTrie) (bs : List ℕ) (o : Option (List ℕ)) (slots nodes : ℕ) → chars_of bs ≡ o → room_of used t o ≡ Ok (Partly slots nodes)
+    → (slots ≤ length bs) × (nodes ≤ length bs)
 unfolding room_from
-by_text used t bs none room q f = let z : ◌≡◌ {A = ℕ} 0 1 = cc in absurd (omega arith)
-by_text used t bs (some cs) room q f =
-    let p = room_of_lem used t cs room (reach t Root cs) refl f in
+by_text used t bs none slots nodes q f = let z : ◌≡◌ {A = ℕ} 0 1 = cc in absurd (omega arith)
+by_text used t bs (some cs) slots nodes q f =
+    let p = room_of_lem used t cs slots nodes (reach t Root cs) refl f in
     let c = no_more_than_bytes bs cs q in
     (omega arith, omega arith)
 
-pub room_small : (used : ℕ) (t : CharTrie) (bs : List ℕ) (room : Room) → room_of used t (chars_of bs) ≡ Ok room
-    → (room.slots ≤ length bs) × (room.nodes ≤ length bs)
-room_small used t bs room f = by_text used t bs (chars_of bs) room refl f
+pub room_small : (used : ℕ) (t : CharTrie) (bs : List ℕ) (slots nodes : ℕ) → room_of used t (chars_of bs) ≡ Ok (Partly slots nodes)
+    → (slots ≤ length bs) × (nodes ≤ length bs)
+room_small used t bs slots nodes f = by_text used t bs (chars_of bs) slots nodes refl f
 
 -- ---- the decision by the lookup
 

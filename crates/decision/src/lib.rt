@@ -11,6 +11,7 @@ ghost use Rattle.decision.specs.Texts.{absent_text, decide_text};
 
 use book::{Entering, Head, Refusal};
 use trie::{Slots, Tables};
+use walk::Room;
 
 // How a word enters that the lookup does not find: by the insertion's own walk, which tests no bits.
 fn decide_absent(
@@ -39,14 +40,20 @@ fn decide_absent(
     let Ok(room) = word_walk::room_for(tables, used, word) else {
         return Err(Refusal::Damaged);
     };
-    counts::decide_new(
-        head,
-        records.len(),
-        slots,
-        room.slots as u64,
-        room.nodes as u64,
-        frequency,
-    )
+    match room {
+        Room::Whole(number) => match number {
+            Err(_) => Err(Refusal::Damaged),
+            Ok(_) => counts::decide_new(head, records.len(), slots, 0, 0, frequency),
+        },
+        Room::Partly(new_slots, nodes) => counts::decide_new(
+            head,
+            records.len(),
+            slots,
+            new_slots as u64,
+            nodes as u64,
+            frequency,
+        ),
+    }
 }
 
 // How a word enters: by its lookup, which tests the bits.

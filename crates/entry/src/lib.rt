@@ -31,18 +31,25 @@ pub fn load_entry(
     ensures { enter_answer result (book_in head.new roots.new slots.new records.new logarithms.new)
         ≡ enter_text (book_in head.old roots.old slots.old records.old logarithms.old) (chars_of word.now) frequency }
 {
-    if book::is_head_damaged(*head, records.len(), slots.len() / 2) {
+    // Number by number: copied as a whole right after it was written, the head waits for the writes before it.
+    let before = Head {
+        records: head.records,
+        slots: head.slots,
+        next: head.next,
+        total: head.total,
+    };
+    if book::is_head_damaged(before, records.len(), slots.len() / 2) {
         return Err(Refusal::Damaged);
     }
-    match decision::decide(*head, roots, slots, records, shift, word, frequency as u64)? {
+    match decision::decide(before, roots, slots, records, shift, word, frequency as u64)? {
         Entering::Replace(n, total) => {
             let cell = book::cell_with_frequency(records[n], frequency);
             records::set_record(records, logarithms, n, cell, logarithm);
             head.total = total;
         }
         Entering::Insert(new_slots, nodes, total) => {
-            let n = records::next_record(*head);
-            insert::insert(roots, slots, shift, word, head.next as u32, n as u32);
+            let n = records::next_record(before);
+            insert::insert(roots, slots, shift, word, before.next as u32, n as u32);
             records::set_record(records, logarithms, n as usize, frequency as u64, logarithm);
             head.records += 1;
             head.slots += new_slots;

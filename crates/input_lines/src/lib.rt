@@ -10,7 +10,7 @@ ghost use Rattle.input_lines.specs.Input.{most_kept, taken, line_from};
 use std::marker::Model;
 
 // The bytes that are kept of a line: one more than the longest frame has digits, so that a longer line is seen to be none.
-const KEPT: usize = 2051;
+pub const KEPT: usize = 2051;
 
 // A line as far as it has come: the bytes that are kept of it.
 #[derive(Drop)]

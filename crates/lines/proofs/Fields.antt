@@ -15,7 +15,7 @@ use Rattle.utf8.specs.Encoding.{encode, byte_length}
 use Rattle.utf8.specs.Text.{before, chars_of, chars_from}
 use Rattle.utf8.proofs.Positions.{from_char, from_end, width_of, byte_length_cons, from_second, first_bytes, within_text, none_left}
 use Rattle.std.specs.Prelude.{Option as CodeOption, Some, None}
-use Rattle.std.specs.declared.ops.Range.{Range}
+use Rattle.lines.specs.declared.Field.{Field}
 use Rattle.lines.specs.Lines.{onto, take_while, drop_while, pieces, non_empty, fields_of, past, space_is, field_from, field_at}
 
 -- ---- the first characters that pass a test, and the rest
@@ -133,8 +133,8 @@ begins (c ∷ cs) ds d e = go (white_space c) refl (begins cs ds d)
 
 pub same_field : {a b c d : ℕ} → field_from a b ≡ field_from c d → (a ≡ c) × (b ≡ d)
 same_field e = (
-  ap (λ (o : CodeOption (Range ℕ)). elim o [ Some r ↦ r.start | None ↦ 0 ]) e,
-  ap (λ (o : CodeOption (Range ℕ)). elim o [ Some r ↦ r.end | None ↦ 0 ]) e,
+  ap (λ (o : CodeOption Field). elim o [ Some r ↦ r.start | None ↦ 0 ]) e,
+  ap (λ (o : CodeOption Field). elim o [ Some r ↦ r.end | None ↦ 0 ]) e,
 )
 
 -- of a text whose characters from `at` on are cs: the first field stands from a to b, and the other fields are those from b on

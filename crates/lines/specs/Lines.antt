@@ -2,13 +2,13 @@
 -- Assumes nothing.
 use Rattle.std.specs.Prelude.{ℕ, ◌+◌, ◌-◌, ◌*◌, Bool, true, false, not, ◌&&◌, cond, List, [], ◌∷◌, eqb, leb, length, drop}
 use Rattle.std.specs.Prelude.{Result, Ok, Err, Option as CodeOption, Some, None}
-use Rattle.std.specs.declared.ops.Range.{Range}
 use Rattle.std.proofs.Math.Option.{Option, none, some}
 use Rattle.classes.specs.WhiteSpace.{white_space}
 use Rattle.utf8.specs.Encoding.{byte_length}
 use Rattle.utf8.specs.Text.{chars_of}
 use Rattle.lines.specs.declared.BadFrequency.{BadFrequency}
 use Rattle.lines.specs.declared.Entry.{Entry}
+use Rattle.lines.specs.declared.Field.{Field}
 use Rattle.lines.specs.declared.LineError.{LineError}
 
 -- ---- lines, of bytes
@@ -118,18 +118,18 @@ space_is true c = white_space c
 space_is false c = not (white_space c)
 
 -- a field, and a line with a word, by where they stand
-abbrev pub field_from : ℕ → ℕ → CodeOption (Range ℕ)
+abbrev pub field_from : ℕ → ℕ → CodeOption Field
 field_from a b = Some (record { start = a; end = b })
 
 abbrev pub entry_from : ℕ → ℕ → ℕ → Result (CodeOption Entry) LineError
 entry_from a b n = Ok (Some (record { word = record { start = a; end = b }; frequency = n }))
 
-abbrev pub field_placed : ℕ → List (List ℕ) → CodeOption (Range ℕ)
+abbrev pub field_placed : ℕ → List (List ℕ) → CodeOption Field
 field_placed start [] = None
 field_placed start (f ∷ fs) = field_from start (start + byte_length f)
 
 -- the first field from a position on
-abbrev pub field_at : ℕ → Option (List ℕ) → CodeOption (Range ℕ)
+abbrev pub field_at : ℕ → Option (List ℕ) → CodeOption Field
 field_at at none = None
 field_at at (some cs) = field_placed (past white_space at (some cs)) (fields_of cs)
 

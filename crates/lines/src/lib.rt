@@ -9,13 +9,20 @@ ghost use Rattle.std.proofs.Math.Option.{IsSome};
 ghost use Rattle.utf8.specs.Text.{chars_from};
 ghost use Rattle.lines.specs.Lines.{line_end, past, space_is, field_at, number, frequency_of, line_of};
 
-use std::ops::Range;
 use utf8::Malformed;
 
+// Where a field stands: from where to where.
+// Kept: positions, and no `Range`, which is not `Copy`.
+#[derive(Clone, Copy)]
+pub struct Field {
+    pub start: usize,
+    pub end: usize,
+}
+
 // A line with a word: where it stands in the line, and its frequency.
-#[derive(Drop)]
+#[derive(Clone, Copy)]
 pub struct Entry {
-    pub word: Range<usize>,
+    pub word: Field,
     pub frequency: u32,
 }
 
@@ -83,7 +90,7 @@ fn skip(s: &[u8], at: usize, space: bool) -> usize
 }
 
 // The first field from a position on.
-pub fn next_field(s: &[u8], at: usize) -> Option<Range<usize>>
+pub fn next_field(s: &[u8], at: usize) -> Option<Field>
     requires { (at ≤ length s.now) × IsSome (chars_from s.now at) }
     ensures { result ≡ field_at at (chars_from s.now at) }
 {
@@ -91,7 +98,8 @@ pub fn next_field(s: &[u8], at: usize) -> Option<Range<usize>>
     if start == s.len() {
         return None;
     }
-    Some(start..skip(s, start, false))
+    let end = skip(s, start, false);
+    Some(Field { start, end })
 }
 
 // The number of these digits. It stops at the first that makes the number too large.

@@ -58,7 +58,11 @@ pub fn prefixes_at(
             return Ok(count);
         };
         place = child;
-        let Some(record) = walk::word_at(tables.roots, tables.slots.numbers, used, place)? else {
+        // Kept: no `?`, so that an edit can answer otherwise where the number is bad.
+        let Ok(number) = walk::word_at(tables.roots, tables.slots.numbers, used, place) else {
+            return Err(PrefixError::Damaged);
+        };
+        let Some(record) = number else {
             continue;
         };
         if count == room {

@@ -1,7 +1,7 @@
 -- An answer's line, piece by piece: what is written first and what is written after it. Assumes nothing.
 use Prim.Native.Nat.{ℕ, zero, suc, ◌+◌, ◌-◌, ◌*◌, ◌/◌, ◌%◌, ◌≤◌, ◌<◌}
 use mathlib.Core.List.{List, [], ◌∷◌, ◌++◌}
-use mathlib.Core.Path.{◌≡◌, refl, sym, ap, ◌∙◌}
+use mathlib.Core.Path.{◌≡◌, refl, sym, ap, subst, ◌∙◌}
 use native.Mathlib.Numerals.{add-one}
 use native.Mathlib.Omega.{arith}
 use lib.ListN.{length, get_or, set, drop, length-append, length-set}
@@ -38,24 +38,25 @@ sets_last out at (x ∷ xs) d i e =
 
 -- what `put_digits` has written, from the last digit on, with the digits that are left makes the whole
 pub record Filling (before : List ℕ) (at width n : ℕ) (out : List ℕ) (i rest : ℕ) : Type 0 where
-  pub whole : sets out at (digits (i - at) rest) ≡ sets before at (digits width n)
+  pub whole : sets out at (digits i rest) ≡ sets before at (digits width n)
   pub long : length out ≡ length before
 
 module _ (before : List ℕ) (at width n : ℕ) (out : List ℕ) (i rest : ℕ) where
-  pub digit_put : Filling before at width n out i rest → at < i → (d : ℕ) → d ≡ digit_of (rest % 16)
-      → Filling before at width n (set out (i - 1) d) (i - 1) (rest / 16)
+  pub digit_put : Filling before at width n out i rest → 0 < i → (d : ℕ) → d ≡ digit_of (rest % 16)
+      → Filling before at width n (set out (at + (i - 1)) d) (i - 1) (rest / 16)
   unfolding digits
-  digit_put so_far from d is = record {
+  digit_put so_far some_left d is = record {
     whole =
-        let k : i - at ≡ suc (i - 1 - at) = omega arith in
-        let long = length_digits (i - 1 - at) (rest / 16) in
-        sets_last out at (digits (i - 1 - at) (rest / 16)) d (i - 1) (omega arith) ∙ rw is (rw k at so_far.whole);
-    long = length-set out (i - 1) d ∙ so_far.long;
+        let k : i ≡ suc (i - 1) = omega arith in
+        let long = length_digits (i - 1) (rest / 16) in
+        sets_last out at (digits (i - 1) (rest / 16)) d (at + (i - 1)) (omega arith)
+        ∙ rw is (subst (λ (j : ℕ). sets out at (digits j rest) ≡ sets before at (digits width n)) k so_far.whole);
+    long = length-set out (at + (i - 1)) d ∙ so_far.long;
   }
 
-  pub digits_put : Filling before at width n out i rest → i ≤ at → out ≡ sets before at (digits width n)
+  pub digits_put : Filling before at width n out i rest → i ≤ 0 → out ≡ sets before at (digits width n)
   unfolding digits
-  digits_put so_far end = let none : i - at ≡ 0 = omega arith in rw none at so_far.whole
+  digits_put so_far end = let none : i ≡ 0 = omega arith in rw none at so_far.whole
 
 pub fours_length : (numbers : List ℕ) → length (fours numbers) ≡ 4 * length numbers
 unfolding fours

@@ -24,8 +24,8 @@ fn put_digits<const N: usize>(n: usize, out: &mut [u8], at: usize)
     ensures { out.new ≡ sets out.old at (digits N n) }
 {
     let mut rest = n;
-    for i in (at..at + N).rev() {
-        out[i] = digit_of((rest % 16) as u8);
+    for i in (0..N).rev() {
+        out[at + i] = digit_of((rest % 16) as u8);
         rest /= 16;
     }
 }

@@ -7,6 +7,7 @@ use Rattle.trie.specs.declared.ParentRef.TheVariants.{Root, RootEntry, Slot}
 use Rattle.trie.specs.Trie.{CharTrie, Reach, Reached, NoEnd, key_of, probe_of, step_by_probe, walk, word_at, get_of, reach, new_slots, new_nodes, Step, WordNumber, damage}
 use Rattle.trie.specs.declared.Damaged.{Damaged}
 use Rattle.walk.specs.declared.Room.{Room}
+use Rattle.walk.specs.declared.Room.TheVariants.{Whole, Partly}
 
 -- a place of a table with so many root entries and slots
 unfoldable pub Inside : ℕ → ℕ → ParentRef → Type 0
@@ -39,11 +40,11 @@ BeginsWith ch (some (c ∷ cs)) = c ≡ ch
 
 -- what new steps take for all of these characters, from a place that is there
 unfoldable pub new_steps : CharTrie → ParentRef → List ℕ → Room
-new_steps t p cs = record { slots = new_slots t p cs; nodes = new_nodes cs }
+new_steps t p cs = Partly (new_slots t p cs) (new_nodes cs)
 
--- what a new word finds, where its steps that are there end; where that is all of them, the word number there has to be good
+-- what a new word finds, where its steps that are there end; where that is all of them, what the word number there says
 unfoldable pub room_at : ℕ → CharTrie → Reach → Result Room Damaged
-room_at used t (Reached p []) = elim (word_at used t p) [ Ok w ↦ Ok (new_steps t p []) | Err d ↦ Err d ]
+room_at used t (Reached p []) = Ok (Whole (word_at used t p))
 room_at used t (Reached p (c ∷ cs)) = Ok (new_steps t p (c ∷ cs))
 room_at used t NoEnd = Err damage
 

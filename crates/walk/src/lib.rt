@@ -14,11 +14,13 @@ use trie::{Damaged, ParentRef, Tables};
 // The filter of a root entry, which has no key.
 const ALL_ONES: u64 = 0xFFFF_FFFF_FFFF_FFFF;
 
-// The slots and the nodes that a new word's missing steps take.
+// What a new word finds.
 #[derive(Clone, Copy)]
-pub struct Room {
-    pub slots: usize,
-    pub nodes: usize,
+pub enum Room {
+    // Every step is there; what the last one's word number says.
+    Whole(Result<Option<usize>, Damaged>),
+    // The slots and the nodes that the missing steps take.
+    Partly(usize, usize),
 }
 
 // The node at a place.

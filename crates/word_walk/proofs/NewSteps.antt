@@ -12,7 +12,7 @@ use Rattle.trie.specs.Trie.{CharTrie, from_root, new_slots, trie_of}
 use Rattle.std.specs.Prelude.{Result, Ok, Err}
 use Rattle.utf8.specs.declared.Malformed as Utf8
 use Rattle.utf8.specs.Text.{count_of}
-use Rattle.walk.specs.declared.Room.{Room}
+use Rattle.walk.specs.declared.Room.TheVariants.{Partly}
 use Rattle.walk.specs.Walk.{BeginsWith, new_steps}
 
 -- ---- the count
@@ -37,19 +37,16 @@ module _ (ch : ℕ) (chars : Option (List ℕ)) (begins : BeginsWith ch chars) (
 
 -- ---- the slots
 
-abbrev room : ℕ → ℕ → Room
-room slots nodes = record { slots = slots; nodes = nodes }
-
 module _ (t : CharTrie) (p : ParentRef) (ch n : ℕ) where
-  served : (cs : List ℕ) → BeginsWith ch (some cs) → length cs ≡ n → from_root t p ch ≡ true → room (n - 1) n ≡ new_steps t p cs
+  served : (cs : List ℕ) → BeginsWith ch (some cs) → length cs ≡ n → from_root t p ch ≡ true → Partly (n - 1) n ≡ new_steps t p cs
   unfolding BeginsWith new_steps new_slots
   served [] begins long root = absurd begins
-  served (c ∷ cs) begins long root = rw (begins, root) (ap₂ room (omega arith) (sym long))
+  served (c ∷ cs) begins long root = rw (begins, root) (ap₂ Partly (omega arith) (sym long))
 
-  unserved : (cs : List ℕ) → BeginsWith ch (some cs) → length cs ≡ n → from_root t p ch ≡ false → room n n ≡ new_steps t p cs
+  unserved : (cs : List ℕ) → BeginsWith ch (some cs) → length cs ≡ n → from_root t p ch ≡ false → Partly n n ≡ new_steps t p cs
   unfolding BeginsWith new_steps new_slots
   unserved [] begins long root = absurd begins
-  unserved (c ∷ cs) begins long root = rw (begins, root) (ap₂ room (sym long) (sym long))
+  unserved (c ∷ cs) begins long root = rw (begins, root) (ap₂ Partly (sym long) (sym long))
 
 -- as the code tells them apart
 module _ (roots : List ℕ) (place : ParentRef) (ch : ℕ) (chars : Option (List ℕ)) (begins : BeginsWith ch chars) (x : Result ℕ Utf8.Malformed)
@@ -65,8 +62,8 @@ module _ (roots : List ℕ) (place : ParentRef) (ch : ℕ) (chars : Option (List
     long = let counts : Ok (length cs) ≡ Ok n = sym (rw all at counted) ∙ is_count in cc
 
     module _ (b : Bool) (tested : (slots' : List ℕ) → b ≡ from_root (trie_of roots slots') place ch) where
-      pub new_from_root : b ≡ true → room (n - 1) n ≡ new_steps t place cs
+      pub new_from_root : b ≡ true → Partly (n - 1) n ≡ new_steps t place cs
       new_from_root root = served t place ch n cs first long (sym (tested slots) ∙ root)
 
-      pub new_below : b ≡ false → room n n ≡ new_steps t place cs
+      pub new_below : b ≡ false → Partly n n ≡ new_steps t place cs
       new_below root = unserved t place ch n cs first long (sym (tested slots) ∙ root)

@@ -6,15 +6,16 @@ use mathlib.Core.Path.{◌≡◌, refl, sym, ap, ◌∙◌}
 use mathlib.Core.List.{List, ◌∷◌}
 use mathlib.Core.Option.{Option, none, some, IsSome}
 use lib.ListN.{length, take, drop}
-use Rattle.std.specs.Prelude.{Result, Ok, Err, Option as Found, Some, None, IsErr}
+use Rattle.std.specs.Prelude.{Result, Ok, Err, Some, None, IsErr}
 use Rattle.trie.specs.declared.Damaged.{Damaged}
 use Rattle.trie.specs.declared.ParentRef.{ParentRef}
-use Rattle.trie.specs.Trie.{CharTrie, open_step, word_at, new_slots, reach, trie_of, Step, WordNumber}
+use Rattle.trie.specs.Trie.{CharTrie, open_step, word_at, reach, trie_of, Step, WordNumber}
 use Rattle.trie.proofs.Damage.{handed_on}
 use Rattle.utf8.specs.Characters.{character_at, char}
 use Rattle.utf8.specs.Text.{before, chars_of, chars_from}
 use Rattle.utf8.proofs.Positions.{from_char, from_end, still_chars}
 use Rattle.walk.specs.declared.Room.{Room}
+use Rattle.walk.specs.declared.Room.TheVariants.{Whole}
 use Rattle.walk.specs.Walk.{new_steps, room_at, room_from}
 use Rattle.walk.proofs.Characters.{part_chars}
 
@@ -42,14 +43,9 @@ module _ (used : ℕ) (roots slots : List ℕ) (p : ParentRef) (s : List ℕ) (a
   tables = trie_of roots slots
 
   module _ (same : room_from used tables p (chars_from s at) ≡ found) where
-    module _ (number : WordNumber) (read : number ≡ word_at used tables p) (h : length s ≤ at) where
-      pub room_whole : (w : Found ℕ) → number ≡ Ok w → Ok (record { slots = 0; nodes = 0 }) ≡ found
-      unfolding room_from room_at reach new_steps new_slots
-      room_whole w good = rw (from_end s at h, room_at, ← read, good) at same
-
-      pub room_bad : (d : Damaged) → number ≡ Err d → (y : Result Room Damaged) → IsErr y → y ≡ found
-      unfolding room_from room_at reach
-      room_bad d bad y fails = handed_on y fails d ∙ rw (from_end s at h, room_at, ← read, bad) at same
+    pub room_whole : (number : WordNumber) → number ≡ word_at used tables p → length s ≤ at → Ok (Whole number) ≡ found
+    unfolding room_from room_at reach
+    room_whole number read h = ap (λ (n : WordNumber). Ok (Whole n)) read ∙ rw (from_end s at h) at same
 
     module _ (ch w u : ℕ) (read : character_at s at ≡ char ch w u) (r : Step) (step : r ≡ open_step tables p ch) where
       at_char : room_from used tables p (before ch (chars_from s (at + w))) ≡ found

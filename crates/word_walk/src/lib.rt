@@ -56,12 +56,9 @@ fn new_steps(roots: &[u64], place: ParentRef, ch: u32, s: &[u8]) -> Room
     };
     if walk::from_root(roots, place, ch) {
         let slots = nodes - 1;
-        return Room { slots, nodes };
+        return Room::Partly(slots, nodes);
     }
-    Room {
-        slots: nodes,
-        nodes,
-    }
+    Room::Partly(nodes, nodes)
 }
 
 // What the word s finds when it is new to the lookup: the insertion's walk, which tests no bits and writes nothing.
@@ -79,6 +76,6 @@ pub fn room_for(tables: Tables, used: usize, s: &[u8]) -> Result<Room, Damaged>
         place = child;
         at += next.width;
     }
-    walk::word_at(tables.roots, tables.slots.numbers, used, place)?;
-    Ok(Room { slots: 0, nodes: 0 })
+    let number = walk::word_at(tables.roots, tables.slots.numbers, used, place);
+    Ok(Room::Whole(number))
 }

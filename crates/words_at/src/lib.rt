@@ -15,7 +15,7 @@ ghost use Rattle.words_at.specs.Walks.{put_walk};
 
 use book::Refusal;
 use cuts::CutError;
-use trie::{ParentRef, Tables};
+use trie::{Damaged, ParentRef, Tables};
 
 // Writes the words that start at a position of a block of n characters, as the walk meets them.
 pub fn words_at(
@@ -56,14 +56,22 @@ pub fn words_at(
             Ok(None) => {
                 continue;
             }
-            Err(_) => {
+            Err(Damaged) => {
                 return Err(CutError {
                     refusal: Refusal::Damaged,
                     count,
                 });
             }
         }
-        count = tokens::emit_span(offsets, base, at, next + 1, tokens, count)?;
+        // Kept: no `?`, so that an edit can answer otherwise where no token is left.
+        match tokens::emit_span(offsets, base, at, next + 1, tokens, count) {
+            Ok(done) => {
+                count = done;
+            }
+            Err(full) => {
+                return Err(full);
+            }
+        }
     }
     Ok(count)
 }

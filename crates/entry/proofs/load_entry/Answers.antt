@@ -76,8 +76,8 @@ pub set_record-requires : goal.set_record-requires
 set_record-requires c =
     omega (arith, held (goal.at.set_record-requires c).In-Replace, within (goal.at.set_record-requires c).Else-is_head_damaged, few_records (goal.at.set_record-requires c).Start)
 
-pub overflow_cast-head : goal.overflow_cast-head
-overflow_cast-head c = omega (arith, within (goal.at.overflow_cast-head c).Else-is_head_damaged)
+pub overflow_cast-before : goal.overflow_cast-before
+overflow_cast-before c = omega (arith, within (goal.at.overflow_cast-before c).Else-is_head_damaged)
 
 pub overflow_cast-n : goal.overflow_cast-n
 overflow_cast-n c =

@@ -30,35 +30,34 @@ word_at-requires c =
     next_inside c.loop-next.invariant.walk c.requires.at_lt_n.1 c.loop-next-test.true c.tested_step.ensures
     (leads (goal.at.word_at-requires c).In-Some) c.args.tables.slots.table
 
-pub returns-in_err-record-clause-walked_at : goal.returns-in_err-record-clause-walked_at
-returns-in_err-record-clause-walked_at c =
-    let p = err_from_is_err_and c.from_residual-in_err-record.result c.from_residual-in_err-record.ensures.1 in
-    rw (p.1, p.2) (ends_bad c.loop-next.invariant c.requires.at_lt_n.1 c.loop-next-test.true c.tested_step.ensures
-    (leads (goal.at.returns-in_err-record-clause-walked_at c).In-Some) c.word_at.ensures c.in_err-record.was).0
+pub returns-in_default-word_at-clause-walked_at : goal.returns-in_default-word_at-clause-walked_at
+returns-in_default-word_at-clause-walked_at c =
+    (ends_bad c.loop-next.invariant c.requires.at_lt_n.1 c.loop-next-test.true c.tested_step.ensures
+    (leads (goal.at.returns-in_default-word_at-clause-walked_at c).In-Some) c.word_at.ensures c.in_default-word_at.is).0
 
 pub returns-then-count-room-clause-walked_at : goal.returns-then-count-room-clause-walked_at
 returns-then-count-room-clause-walked_at c =
     (ends_full c.loop-next.invariant c.requires.at_lt_n.1 c.loop-next-test.true c.tested_step.ensures
     (leads (goal.at.returns-then-count-room-clause-walked_at c).In-Some) c.word_at.ensures
-    (c.in_ok-record.was ∙ ap Ok c.in-Some-2.is) (omega (arith, c.if-count-room.true))).0
+    (c.in-Ok.is ∙ ap Ok c.in-Some-number.is) (omega (arith, c.if-count-room.true))).0
 
 pub overflow_cast-edge_records : goal.overflow_cast-edge_records
 overflow_cast-edge_records c =
     let below =
     in_use_record c.loop-next.invariant c.requires.at_lt_n.1 c.loop-next-test.true c.tested_step.ensures
-    (leads (goal.at.overflow_cast-edge_records c).In-Some) c.word_at.ensures (c.in_ok-record.was ∙ ap Ok c.in-Some-2.is) in
+    (leads (goal.at.overflow_cast-edge_records c).In-Some) c.word_at.ensures (c.in-Ok.is ∙ ap Ok c.in-Some-number.is) in
     omega (arith, below, c.requires.taken_le_room.3)
 
-pub loop-next-preserved-in_default-2 : goal.loop-next-preserved-in_default-2
-loop-next-preserved-in_default-2 c =
+pub loop-next-preserved-in_default-number : goal.loop-next-preserved-in_default-number
+loop-next-preserved-in_default-number c =
     goes_on c.loop-next.invariant c.requires.at_lt_n.1 c.loop-next-test.true c.tested_step.ensures
-    (leads (goal.at.loop-next-preserved-in_default-2 c).In-Some) c.word_at.ensures
-    c.args.tables.slots.table (c.in_ok-record.was ∙ ap Ok c.in_default-2.is)
+    (leads (goal.at.loop-next-preserved-in_default-number c).In-Some) c.word_at.ensures
+    c.args.tables.slots.table (c.in-Ok.is ∙ ap Ok c.in_default-number.is)
 
 pub loop-next-preserved : goal.loop-next-preserved
 loop-next-preserved c =
     goes_on_behind c.loop-next.invariant c.requires.at_lt_n.1 c.loop-next-test.true c.tested_step.ensures
-    (leads (goal.at.loop-next-preserved c).In-Some) c.word_at.ensures (c.in_ok-record.was ∙ ap Ok c.in-Some-2.is)
+    (leads (goal.at.loop-next-preserved c).In-Some) c.word_at.ensures (c.in-Ok.is ∙ ap Ok c.in-Some-number.is)
     c.args.tables.slots.table (omega (arith, c.if-count-room.false, c.loop-next.invariant.within))
     c.requires.taken_le_room.1 c.requires.taken_le_room.2
 

@@ -9,7 +9,7 @@ use Rattle.utf8.proofs.Positions.{inside, from_start, value_below, still_chars}
 use Rattle.walk.specs.Walk.{room_from}
 use Rattle.walk.proofs.Places.{starts_inside, leads_open}
 use Rattle.walk.proofs.Characters.{chars_start, begins_with}
-use Rattle.word_walk.proofs.Rooms.{room_next, room_missing, room_damaged, room_whole, room_bad}
+use Rattle.word_walk.proofs.Rooms.{room_next, room_missing, room_damaged, room_whole}
 use Rattle.word_walk.proofs.room_for.Goals as goal
 
 pub loop-at-init : goal.loop-at-init
@@ -42,8 +42,5 @@ returns-in_default c = let nothing : c.open_step.result ≡ Ok None = cc c.in_ok
 pub returns-in_err-child : goal.returns-in_err-child
 returns-in_err-child c = search (room_damaged, c.in_err-child.was)
 
-pub returns-in_err-word_at : goal.returns-in_err-word_at
-returns-in_err-word_at c = search (room_bad, c.in_err-word_at.was)
-
 pub returns : goal.returns
-returns c = search (room_whole, c.in_ok-word_at.was)
+returns c = search room_whole

@@ -1,13 +1,12 @@
 -- `words_at::words_at` meets its contract. The loop's invariant is `Walking`. Each way on and each return is a law of `Walks`.
 -- Assumes nothing.
-use Rattle.std.proofs.Common.{rules}
 use mathlib.Core.Path.{◌≡◌, ap, ◌∙◌}
 use native.Mathlib.Omega.{arith}
 use Rattle.std.specs.Prelude.{Ok, Err, Some}
 use Rattle.cuts.proofs.Walks.{next_inside}
 use Rattle.words_at.proofs.Walks.{begins, ends_here, ends_nothing, ends_damaged, ends_bad, ends_full, goes_past, goes_behind}
 use Rattle.words_at.proofs.words_at.Goals as goal
-use Rattle.words_at.proofs.words_at.Goals.{After-from_residual, In-Ok-Some}
+use Rattle.words_at.proofs.words_at.Goals.{In-Ok-Some}
 
 -- the step leads to a place
 leads : (c : In-Ok-Some) → c.tested_step.result ≡ Ok (Some c.in-Ok-Some.child)
@@ -44,21 +43,17 @@ pub emit_span-requires : goal.emit_span-requires
 emit_span-requires c =
     (omega (arith, c.loop-next.invariant.walk.first), omega (arith, c.requires.at_lt_n), omega (arith, c.requires.at_lt_n))
 
-refused_as : (c : goal.After-from_residual) → c.from_residual.result ≡ Err c.in_err-count.field-0.0
-refused_as c = search rules
-
-pub returns-in_err-count : goal.returns-in_err-count
-returns-in_err-count c =
-    rw (refused_as c)
-    (ends_full c.loop-next.invariant c.requires.at_lt_n.1 c.loop-next-test.true c.tested_step.ensures (leads (goal.at.returns-in_err-count c).In-Ok-Some)
+pub returns-in-Err-emit_span : goal.returns-in-Err-emit_span
+returns-in-Err-emit_span c =
+    ends_full c.loop-next.invariant c.requires.at_lt_n.1 c.loop-next-test.true c.tested_step.ensures (leads (goal.at.returns-in-Err-emit_span c).In-Ok-Some)
     c.word_at.ensures (c.in-Ok-Some-word_at.is ∙ ap Ok c.in-Ok-Some-word_at.field-0-is) c.emit_span.result _ c.emit_span.ensures
-    c.in_err-count.was)
+    c.in-Err-emit_span.is
 
 pub loop-next-preserved : goal.loop-next-preserved
 loop-next-preserved c =
     goes_behind c.loop-next.invariant c.requires.at_lt_n.1 c.loop-next-test.true c.tested_step.ensures (leads (goal.at.loop-next-preserved c).In-Ok-Some)
     c.word_at.ensures (c.in-Ok-Some-word_at.is ∙ ap Ok c.in-Ok-Some-word_at.field-0-is) c.emit_span.result _ c.emit_span.ensures
-    c.args.tables.slots.table c.in_ok-count.was c.emit_span.auto.tokens
+    c.args.tables.slots.table c.in-Ok.is c.emit_span.auto.tokens
 
 pub returns-in-Err-word_at : goal.returns-in-Err-word_at
 returns-in-Err-word_at c =
